@@ -1,7 +1,7 @@
 -- Laws of Bool that the form's parts are put together and taken apart by.
 -- Assumes nothing.
 use mathlib.Core.Path.{_≡_, refl, sym, ap, _∙_}
-use mathlib.Core.Bool.{Bool, true, false, _&&_}
+use mathlib.Core.Bool.{Bool, true, false, _&&_, _||_}
 use Prim.Native.Nat.{ℕ}
 use native.Mathlib.Omega.{arith}
 
@@ -31,3 +31,23 @@ and-true false = refl
 pub and-assoc : (a b c : Bool) → ((a && b) && c) ≡ (a && (b && c))
 and-assoc true b c = refl
 and-assoc false b c = refl
+
+-- a conjunction of four
+pub four-true : (a b c d : Bool) → (a && b && c && d) ≡ true → (a ≡ true) × (b ≡ true) × (c ≡ true) × (d ≡ true)
+four-true a b c d e =
+    let x = both-true (a && b && c) d e in
+    let y = both-true (a && b) c (x .0) in
+    let z = both-true a b (y .0) in
+    (z .0, z .1, y .1, x .1)
+
+pub four-of : (a b c d : Bool) → a ≡ true → b ≡ true → c ≡ true → d ≡ true → (a && b && c && d) ≡ true
+four-of a b c d p q r s = rw (p, q, r, s)
+
+-- what is left of an `||` whose first part fails
+pub or-right : (a b : Bool) → (a || b) ≡ true → a ≡ false → b ≡ true
+or-right true b e f = true-false f
+or-right false b e f = e
+
+pub or-either : (a b : Bool) → (a ≡ false → b ≡ true) → (a || b) ≡ true
+or-either true b f = refl
+or-either false b f = f refl
