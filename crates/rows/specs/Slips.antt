@@ -1,0 +1,98 @@
+-- "Slips we have seen" of document 01, each written as a definition, and a named input at which it leaves the rule.
+-- Assumes nothing.
+use mathlib.Core.Path.{_≡_, refl}
+use mathlib.Core.Bool.{Bool, true, false, cond}
+use mathlib.Core.List.{map}
+use Prim.Native.Nat.{ℕ, _+_, _*_, _/_, min, _≤_}
+use native.Mathlib.Omega.{arith}
+use lib.Dec.{leb, eqb}
+use borrow.Author.Tests.{eqb-false, le-ltb}
+use Rattle.cost.specs.Cost.{costOf}
+use Rattle.flow.specs.Steps.{leaps, leapClock, frontTag, queued, untagged}
+use Rattle.uplink.specs.Record.{flowAt, moved}
+use Rattle.uplink.specs.Reply.{idle}
+use Rattle.uplink.specs.State.{State, Outcome, outcome}
+use Rattle.uplink.specs.Arrival.{arrivalRule}
+use Rattle.uplink.specs.Pick.{linkAfter, serveRule, idleRule, pickRule}
+use Rattle.rows.specs.Examples.{bothWait, noneWaits, atEquality, afterLeap}
+use Rattle.rows.specs.Parts.{apart, arrivalWith, pickWith, serveWith}
+
+-- "Clamping .. a cost", to 16 bits: P9's share of 10
+abbrev pub clampedCost : ℕ → ℕ
+clampedCost q = min (costOf q) 65535
+
+pub clamped-cost-differs : clampedCost 10 ≡ costOf 10 → ⊥
+unfolding costOf
+clamped-cost-differs = eqb-false _ _ refl
+
+-- "or rounding down a cost": P9's share of 11
+abbrev pub roundedDownCost : ℕ → ℕ
+roundedDownCost q = 720000 / q
+
+pub rounded-down-cost-differs : roundedDownCost 11 ≡ costOf 11 → ⊥
+unfolding costOf
+rounded-down-cost-differs = eqb-false _ _ refl
+
+-- "Leaping again until T is close enough": here twice. At clock 0 and Δ 100, T of 301 is far enough for it.
+abbrev pub leapsAgain : ℕ → ℕ → ℕ → ℕ
+leapsAgain clock width T = leapClock (leapClock clock width T) width T
+
+pub leaps-again-differs : leapsAgain 0 100 301 ≡ leapClock 0 100 301 → ⊥
+leaps-again-differs = eqb-false _ _ refl
+
+-- no pick shows this slip: in a well formed record T is at most clock + 3Δ, and one leap is then enough
+pub one-leap-enough : (clock width T : ℕ) → T ≤ clock + 3 * width →
+    leapsAgain clock width T ≡ leapClock clock width T
+one-leap-enough clock width T near = go (leaps clock width T) refl
+  where
+    go : (far : Bool) → leaps clock width T ≡ far → leapsAgain clock width T ≡ leapClock clock width T
+    go true e = rw (e, le-ltb (clock + width + 2 * width) T (omega arith))
+    go false e = rw (e, e)
+
+-- "or leaping at equality": at P5's pick
+abbrev pub leapsAtEquality : State → Outcome
+leapsAtEquality = pickWith idleRule
+    (λ s f. serveWith (leb (s .held .clock .0 + 2 * s .held .width) (flowAt (s .held) f .tag .0)) (linkAfter s f) s f)
+
+pub leaps-at-equality-differs : leapsAtEquality atEquality ≡ pickRule atEquality → ⊥
+unfolding atEquality
+leaps-at-equality-differs = apart (λ o. o .state .held .clock .0) _ _ refl
+
+-- "Leaping before looking for nothing waiting, so that Idle keeps a clock": at P4's pick
+abbrev pub idleKeepsClock : State → Outcome
+idleKeepsClock = pickWith
+    (λ s. outcome idle (moved (s .held) (s .held .clock .0) 0 (map untagged (s .held .flow))) (s .lengths) (s .handles))
+    serveRule
+
+pub idle-keeps-clock-differs : idleKeepsClock noneWaits ≡ pickRule noneWaits → ⊥
+unfolding noneWaits
+idle-keeps-clock-differs = apart (λ o. o .state .held .clock .0) _ _ refl
+
+-- "Leaving the tags at Idle while the clock goes to 0": at P4's pick
+abbrev pub idleKeepsTags : State → Outcome
+idleKeepsTags = pickWith
+    (λ s. outcome idle (moved (s .held) 0 0 (s .held .flow)) (s .lengths) (s .handles))
+    serveRule
+
+pub idle-keeps-tags-differs : idleKeepsTags noneWaits ≡ pickRule noneWaits → ⊥
+unfolding noneWaits
+idle-keeps-tags-differs = apart (λ o. flowAt (o .state .held) 0 .tag .0) _ _ refl
+
+-- "Tagging on arrival behind a waiting packet": a second packet of 100 bytes at flow 0, after P1
+abbrev pub tagsBehind : State → ℕ → ℕ → ℕ → Outcome
+tagsBehind = arrivalWith
+    (λ w clock cost n. queued w (frontTag (w .tag .0) (clock .0) cost n) (w .first) (w .waiting + 1))
+
+pub tags-behind-differs : tagsBehind bothWait 0 100 9 ≡ arrivalRule bothWait 0 100 9 → ⊥
+unfolding bothWait
+tags-behind-differs = apart (λ o. flowAt (o .state .held) 0 .tag .0) _ _ refl
+
+-- "Restarting an empty flow at the clock and forgetting its higher tag": 100 bytes at flow 0 after P6, as at P8
+abbrev pub restartsAtClock : State → ℕ → ℕ → ℕ → Outcome
+restartsAtClock = arrivalWith
+    (λ w clock cost n. queued w
+    (cond (eqb (w .waiting) 0) (frontTag 0 (clock .0) cost n) (w .tag .0)) (w .first) (w .waiting + 1))
+
+pub restarts-at-clock-differs : restartsAtClock afterLeap 0 100 7 ≡ arrivalRule afterLeap 0 100 7 → ⊥
+unfolding afterLeap
+restarts-at-clock-differs = apart (λ o. flowAt (o .state .held) 0 .tag .0) _ _ refl

@@ -1,0 +1,1 @@
+// Demand 3, the shares: theorems only, in specs/.
