@@ -29,6 +29,7 @@ pub fn charge_ticks(length: u16, cost: u32) -> u64
 // What a packet of `length` bytes takes of the link: 720 ticks a byte.
 pub fn link_ticks(length: u16) -> u64
     ensures { λ r. ⌜ r ≡ linkTicks length ⌝ }
+    ensures fits { λ r. ⌜ r < 2 ^ 26 ⌝ }
 {
     720 * length as u64
 }

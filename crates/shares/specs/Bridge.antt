@@ -26,7 +26,8 @@ use Rattle.uplink.specs.Formed.{Formed, FlowFormed}
 use Rattle.uplink.specs.Pick.{frontLength}
 use Rattle.shares.specs.Keep.{Table, Sound, View, Good, Change, in-time}
 
-abbrev tableWith : ℕ → ℕ → (ℕ → ℕ) → Table
+-- a table: the costs are those of the shares
+abbrev pub tableWith : ℕ → ℕ → (ℕ → ℕ) → Table
 tableWith size width share = record { size = size; width = width; share = share; cost = λ f. costOf (share f) }
 
 -- the table of a record

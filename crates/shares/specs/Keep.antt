@@ -162,13 +162,13 @@ module _ {X : Table} (sound : Sound X) (c i : ℕ) {F G : View} (l : i < X .size
       }
 
 -- reset: an opening, or Idle
-pub reset-good : (X : Table) {F : View} → ((j : ℕ) → j < X .size → F .tag j ≡ 0)
-    → ((j : ℕ) → j < X .size → F .charge j ≡ 0) → Good X 0 F
-reset-good X {F} tags charges =
+pub reset-good : (X : Table) {c : ℕ} {F : View} → ((j : ℕ) → j < X .size → F .tag j ≡ 0)
+    → ((j : ℕ) → j < X .size → F .charge j ≡ 0) → Good X c F
+reset-good X {c} {F} tags charges =
     record
     {
-      backlog = λ t. backlog-low X 0 0 F t λ j l.
-        own-low 0 t (X .share j) (F .tag j) (F .charge j) λ w. absurd (omega (arith, charges j l));
+      backlog = λ t. backlog-low X c c F t λ j l.
+        own-low c t (X .share j) (F .tag j) (F .charge j) λ w. absurd (omega (arith, charges j l));
       near = λ j l. omega (arith, tags j l);
       fits = λ j l. rw (charges j l) (omega arith)
     }

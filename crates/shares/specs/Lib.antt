@@ -4,3 +4,8 @@ pub mod Keep
 pub mod Start
 pub mod Bridge
 pub mod Store
+pub mod Serve
+pub mod Idle
+pub mod Opened
+pub mod Runs
+pub mod Calls

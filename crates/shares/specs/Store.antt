@@ -15,9 +15,8 @@ use Rattle.flow.specs.Laws.{ranged-out, ranged-in, queue-at, queue-in, place-in
 use Rattle.flow.specs.declared.Flow.{Flow}
 use Rattle.uplink.specs.Record.{flowAt, flowCost}
 use Rattle.uplink.specs.State.{State}
-use Rattle.uplink.specs.Arrival.{storeRule}
 use Rattle.shares.specs.Keep.{Good, Change, unchanged, front-good}
-use Rattle.shares.specs.Start.{MovesOn, front-start}
+use Rattle.shares.specs.Start.{MovesOn, same-start, front-start}
 use Rattle.shares.specs.Bridge.{Steady, tableOf, viewOf, frontCharge, charge-idle, charge-waits, table-sound, packet-fits, Put, put, put-at, put-charge, put-change,
   put-table, put-steady}
 
@@ -47,10 +46,6 @@ module _ (s : State) (f n handle : ℕ) where
 
   abbrev after : State
   after = put s stored
-
-  pub store-put : storeRule s f n handle .state ≡ after
-  unfolding storeRule
-  store-put = refl
 
   module _ (S : Steady s) (l : f < s .held .flows) (some : 1 ≤ n) (short : n ≤ old .largest) (room : old .waiting < 64) where
     -- the place behind the last packet has the new length
@@ -98,3 +93,16 @@ module _ (s : State) (f n handle : ℕ) where
     unfolding joinedFlow
     store-steady = put-steady s stored S l refl refl store-range store-queue store-good
         (S .form .link) (S .form .clock)
+
+    -- the table stays
+    pub store-table : tableOf (after .held) ≡ tableOf (s .held)
+    unfolding joinedFlow
+    store-table = put-table s stored S l refl refl
+
+    -- no flow's start moves that is not behind the clock
+    pub store-start : (g : ℕ) → clock ≤ viewOf s .tag g
+        → (clock ≤ viewOf after .tag g) × MovesOn g (flowCost (flowAt (s .held) g)) 0 (viewOf s) (viewOf after)
+    store-start g a = elim (ℕ-discrete (old .waiting) 0)
+        as (λ _. (clock ≤ viewOf after .tag g) × MovesOn g (flowCost (flowAt (s .held) g)) 0 (viewOf s) (viewOf after))
+      [ yes q ↦ front-start (tableOf (s .held) .cost) clock f (chargeOf n) (charge-idle s f q) (store-front q) g a
+      | no q ↦ same-start (flowCost (flowAt (s .held) g)) clock g (store-behind (omega arith)) a ]

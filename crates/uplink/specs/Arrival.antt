@@ -8,8 +8,8 @@ use Rattle.cost.specs.Cost.{within}
 use Rattle.flow.specs.Steps.{placeOf, joinedFlow}
 use Rattle.uplink.specs.Record.{flowAt, counts, flowCost, moved}
 use Rattle.uplink.specs.Reply.{done}
-use Rattle.uplink.specs.State.{State, Outcome, outcome, demand, lent}
-use Rattle.uplink.specs.Form.{formed}
+use Rattle.uplink.specs.State.{State, Outcome, outcome, demand}
+use Rattle.uplink.specs.Form.{checked}
 
 -- "The packet goes behind the flow's last one."
 abbrev pub lastPlace : State → ℕ → ℕ
@@ -33,9 +33,6 @@ joinRule s f n handle =
     (demand (ltb (flowAt (s .held) f .waiting) 64) 9 s
     (storeRule s f n handle)))
 
--- 1 and 2
-unfoldable pub arrivalRule : State → ℕ → ℕ → ℕ → Outcome
-arrivalRule s f n handle =
-    demand (lent (s .lengths) (s .handles)) 1 s
-    (demand (formed (s .held) (s .lengths)) 2 s
-    (joinRule s f n handle))
+-- 1, 2, 7, 8, 9
+abbrev pub arrivalRule : State → ℕ → ℕ → ℕ → Outcome
+arrivalRule s f n handle = checked s (joinRule s f n handle)

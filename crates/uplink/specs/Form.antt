@@ -9,6 +9,7 @@ use Rattle.cost.specs.Cost.{within}
 use Rattle.flow.specs.Form.{booked, placed, queueFormed, tagFormed, spareFlow}
 use Rattle.uplink.specs.declared.Record.{Record}
 use Rattle.uplink.specs.Record.{flowAt, counts, sharesOf, widthOf}
+use Rattle.uplink.specs.State.{State, Outcome, demand, lent}
 
 -- "the clock is below 2^62 + 1,081,080,000": a pick below 2^62 adds at most one leap and one packet
 abbrev pub clockEnd : ℕ
@@ -41,3 +42,7 @@ restSpare r = allBelow (λ f. counts r f || spareFlow (flowAt r f)) 64
 -- well formed, with this memory of lengths
 unfoldable pub formed : Record → List ℕ → Bool
 formed r lengths = tabled r && queuesFormed r lengths && tagsFormed r && clocksFormed r && restSpare r
+
+-- refusals 1 and 2, with which every call on a record begins; then the call goes on
+unfoldable pub checked : State → Outcome → Outcome
+checked s on = demand (lent (s .lengths) (s .handles)) 1 s (demand (formed (s .held) (s .lengths)) 2 s on)

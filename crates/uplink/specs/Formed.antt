@@ -5,14 +5,16 @@ use mathlib.Core.Path.{_≡_, refl, sym, ap, ap₂, _∙_}
 use mathlib.Core.Bool.{Bool, true, false, _&&_, _||_}
 use mathlib.Core.List.{List}
 use Prim.Native.Nat.{ℕ, _≤_, _<_}
+use native.Mathlib.Nat.{mul-le-mul}
 use native.Mathlib.Omega.{arith}
 use lib.Dec.{leb, ltb, eqb}
 use borrow.Author.Tests.{leb-true, ltb-true, eqb-true, le-leb, lt-ltb, eq-eqb, ltb-false, le-ltb}
-use Rattle.below.specs.Below.{allBelow, allBelow-at, allBelow-of}
+use Rattle.below.specs.Below.{allBelow, allBelow-at, allBelow-of, mostBelow-le}
 use Rattle.below.specs.Truth.{both-true, both-of, four-true, four-of, or-right, or-either}
-use Rattle.cost.specs.Cost.{within, within-bounds, within-of}
+use Rattle.cost.specs.Cost.{within, within-bounds, within-of, cost-most}
 use Rattle.flow.specs.Steps.{noFlow}
 use Rattle.flow.specs.Form.{booked, placed, ranged, queueFormed, tagFormed, spareFlow}
+use Rattle.flow.specs.Laws.{ranged-out}
 use Rattle.uplink.specs.declared.Record.{Record}
 use Rattle.uplink.specs.Record.{flowAt, counts, sharesOf, widthOf}
 use Rattle.uplink.specs.Form.{clockEnd, tabled, queuesFormed, tagsFormed, clocksFormed, restSpare, formed}
@@ -75,3 +77,10 @@ formed-in r lengths F =
     (allBelow-of _ _ λ f h. F .each f h .tag)
     (both-of _ _ (le-leb _ _ (F .link)) (lt-ltb _ _ (F .clock))))
     (allBelow-of _ _ λ f l. or-either (counts r f) _ (λ e. F .rest f (ltb-false f (r .flows) e) l))
+
+-- the leap width is at most 1,080,000,000
+pub width-most : (r : Record) (lengths : List ℕ) → Formed r lengths → r .width ≤ 1080000000
+unfolding widthOf
+width-most r lengths F =
+    omega (arith, F .width, mostBelow-le _ (r .flows) 1080000000 λ f h.
+      mul-le-mul (ranged-out (flowAt r f) (F .each f h .range) .largest-high) (cost-most (flowAt r f .share)))

@@ -1,16 +1,16 @@
 -- The rule of a pick: document 01, Pick, steps 1 to 5, and the order of its refusals: 1, 2, Idle, 10.
 -- Assumes nothing.
 use mathlib.Core.Bool.{Bool, cond}
-use mathlib.Core.List.{map}
 use Prim.Native.Nat.{ℕ, _+_, _^_}
 use lib.Dec.{ltb}
 use lib.ListN.{getD, set}
+use Rattle.below.specs.Listed.{mapFirst}
 use Rattle.flow.specs.Steps.{placeOf, linkTicks, leaps, leapClock, servedFlow, untagged, ticks}
 use Rattle.uplink.specs.declared.Record.{Record}
 use Rattle.uplink.specs.Record.{flowAt, flowCost, moved}
 use Rattle.uplink.specs.Reply.{idle, packet}
-use Rattle.uplink.specs.State.{State, Outcome, outcome, demand, lent}
-use Rattle.uplink.specs.Form.{formed}
+use Rattle.uplink.specs.State.{State, Outcome, outcome, demand}
+use Rattle.uplink.specs.Form.{checked}
 use Rattle.uplink.specs.Choice.{leadOf}
 
 -- 10: "something waits and the clock is 2^62 or more"
@@ -56,8 +56,11 @@ serveRule s f =
     (set (s .handles) (frontPlace s f) 0)
 
 -- step 1: "clock, link time and all tags become 0; all else stays"
+abbrev pub restedRecord : Record → Record
+restedRecord r = moved r 0 0 (mapFirst untagged 64 (r .flow))
+
 unfoldable pub idleRule : State → Outcome
-idleRule s = outcome idle (moved (s .held) 0 0 (map untagged (s .held .flow))) (s .lengths) (s .handles)
+idleRule s = outcome idle (restedRecord (s .held)) (s .lengths) (s .handles)
 
 -- Idle and 10, then step 2
 unfoldable pub chooseRule : State → Outcome
@@ -65,9 +68,6 @@ chooseRule s =
     let lead = leadOf (s .held .flow) (s .held .flows) in
     cond (lead .waits) (demand (ltb (s .held .clock .0) clockLimit) 10 s (serveRule s (lead .flow))) (idleRule s)
 
--- 1 and 2
-unfoldable pub pickRule : State → Outcome
-pickRule s =
-    demand (lent (s .lengths) (s .handles)) 1 s
-    (demand (formed (s .held) (s .lengths)) 2 s
-    (chooseRule s))
+-- 1, 2, Idle, 10
+abbrev pub pickRule : State → Outcome
+pickRule s = checked s (chooseRule s)

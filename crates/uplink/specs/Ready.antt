@@ -38,6 +38,7 @@ pub record Servable (r : Record) (f : ℕ) (table lengths handles : List ℕ) : 
   pub tag : flowAt r f .tag .0 < 2 ^ 63
   pub clock : r .clock .0 < 2 ^ 62
   pub link : r .link .0 < 2 ^ 62
+  pub width : r .width ≤ 1080000000
 
 -- lists of one length, 1 to 64, with every share and every largest packet in range
 pub record Openable (shares largest : List ℕ) : Type 0 where

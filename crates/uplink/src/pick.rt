@@ -1,12 +1,9 @@
 // A pick: document 01, Pick, steps 1 to 5, with refusals 1, 2, Idle, 10 in this order.
 ghost use mathlib.Core.Path.{_≡_};
-ghost use mathlib.Core.List.{map};
-ghost use Rattle.flow.specs.Steps.{untagged};
-ghost use Rattle.uplink.specs.Record.{moved};
 ghost use Rattle.uplink.specs.Reply.{pickReply};
 ghost use Rattle.uplink.specs.State.{state, outcome};
 ghost use Rattle.uplink.specs.Ready.{Ready, Servable};
-ghost use Rattle.uplink.specs.Pick.{serveRule, chooseRule, pickRule};
+ghost use Rattle.uplink.specs.Pick.{serveRule, restedRecord, chooseRule, pickRule};
 use crate::{PickReply, Picked, Record, Refusal};
 use flow::{LinkTicks, ServerTicks};
 
@@ -21,6 +18,7 @@ impl Record {
     {
         let f = flow as usize;
         let w = self.flow[f];
+        let tag = w.tag;
         let front = flow::place(flow, w.first, 0);
         let behind = flow::place(flow, w.first, 1);
         let length = lengths[front];
@@ -28,7 +26,7 @@ impl Record {
         let following = lengths[behind];
         lengths[front] = 0;
         handles[front] = 0;
-        let leap = flow::leap(self.clock, self.width, w.tag);
+        let leap = flow::leap(self.clock, self.width, tag);
         let sent = flow::link_ticks(length);
         let clock = ServerTicks(leap.clock.0 + sent);
         let link = LinkTicks(self.link.0 + sent);
@@ -44,7 +42,7 @@ impl Record {
                 flow,
                 length,
                 handle,
-                tag: w.tag,
+                tag,
                 leapt: leap.leapt,
                 clock,
             },
@@ -53,7 +51,7 @@ impl Record {
 
     // Step 1: nothing waits, so clock, link time and all tags become 0.
     fn rested(self) -> Record
-        ensures { λ r. ⌜ r ≡ moved self 0 0 (map untagged (self .flow)) ⌝ }
+        ensures { λ r. ⌜ r ≡ restedRecord self ⌝ }
     {
         let mut next = self;
         next.clock.0 = 0;

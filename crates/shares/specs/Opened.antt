@@ -1,0 +1,180 @@
+-- An accepted opening gives a steady state.
+-- Assumes nothing.
+use mathlib.Core.Path.{_≡_, refl, sym, ap, _∙_}
+use mathlib.Core.Bool.{Bool, true, false, cond}
+use mathlib.Core.List.{List, []}
+use Prim.Native.Nat.{ℕ, zero, suc, _+_, _≤_, _<_}
+use native.Mathlib.Nat.{not-suc-le-zero, zero-add}
+use native.Mathlib.Decide.{ℕ-discrete}
+use native.Mathlib.Omega.{arith}
+use lib.Dec.{leb, eqb}
+use lib.ListN.{length, getD, replicate, length-replicate, List·getD-eq-default}
+use borrow.Author.Tests.{leb-true, eqb-true}
+use Rattle.below.specs.Listed.{listed-at, length-listed}
+use Rattle.below.specs.Truth.{both-true}
+use Rattle.cost.specs.Cost.{within, within-bounds}
+use Rattle.flow.specs.Steps.{noFlow}
+use Rattle.flow.specs.Form.{spareFlow}
+use Rattle.flow.specs.Laws.{ranged-in, queue-in, tag-idle-in, spare-in}
+use Rattle.flow.specs.declared.Flow.{Flow}
+use Rattle.uplink.specs.Record.{blank, flowAt, sharesOf}
+use Rattle.uplink.specs.Reply.{Reply, idle, done, refused}
+use Rattle.uplink.specs.State.{State, Outcome, state, outcome, lent}
+use Rattle.uplink.specs.Formed.{Formed, FlowFormed}
+use Rattle.uplink.specs.Opening.{newFlow, newFlows, newRecord, paired, faultFrom, orElse, tableReply, openedBy, pairRule, openingRule}
+use Rattle.shares.specs.Keep.{reset-good}
+use Rattle.shares.specs.Bridge.{Steady, tableOf, charge-idle}
+
+-- share and largest packet of flow f are in range
+abbrev InRange : List ℕ → List ℕ → ℕ → Type 0
+InRange shares largest f = (within 1 1000 (getD shares f 0) ≡ true) × (within 1 1500 (getD largest f 0) ≡ true)
+
+-- a table that an opening accepts
+record Acceptable (shares largest : List ℕ) : Type 0 where
+  pair : paired shares largest ≡ true
+  sum : sharesOf (newFlows shares largest) (length shares) ≤ 1000
+  each : (f : ℕ) → f < length shares → InRange shares largest f
+
+-- a refusal is not done, and neither is Idle
+refused-done : {A : Type 0} {number flow : ℕ} {values : List ℕ} → refused number flow ≡ done values → A
+refused-done e = let z : _≡_ {A = ℕ} 0 1 = cc in absurd (omega arith)
+
+idle-done : {A : Type 0} {values : List ℕ} → idle ≡ done values → A
+idle-done e = let z : _≡_ {A = ℕ} 0 1 = cc in absurd (omega arith)
+
+-- two tests that were passed on the way to a reply that is done
+both-passed : (a b : Bool) (f g : ℕ) (on : Reply) (values : List ℕ)
+    → cond a (cond b on (refused 5 f)) (refused 4 g) ≡ done values → (a ≡ true) × (b ≡ true) × (on ≡ done values)
+both-passed true true f g on values e = (refl, refl, e)
+both-passed true false f g on values e = refused-done e
+both-passed false b f g on values e = refused-done e
+
+module _ (shares largest : List ℕ) where
+  -- where no fault is found every number is in range
+  fault-none : (f n : ℕ) (values : List ℕ) → faultFrom shares largest f n ≡ done values → (j : ℕ) → f ≤ j → j < f + n
+      → InRange shares largest j
+  unfolding faultFrom
+  fault-none f zero values e j low high = absurd (omega arith)
+  fault-none f (suc n) values e j low high =
+      let p = both-passed (within 1 1000 (getD shares f 0)) (within 1 1500 (getD largest f 0)) f f _ values e in
+      elim (ℕ-discrete j f) as (λ _. InRange shares largest j)
+      [ yes q ↦ rw q (p .0, p .1)
+      | no q ↦ fault-none (suc f) n values (p .2) j (omega arith) (omega arith) ]
+
+  -- a pair of lists whose reply is done is acceptable
+  table-done : paired shares largest ≡ true → tableReply shares largest ≡ done [] → Acceptable shares largest
+  unfolding tableReply
+  table-done p e = go (faultFrom shares largest 0 (length shares)) refl (leb (sharesOf (newFlows shares largest) (length shares)) 1000) refl e
+    where
+      go : (fault : Reply) → faultFrom shares largest 0 (length shares) ≡ fault
+        → (b : Bool) → leb (sharesOf (newFlows shares largest) (length shares)) 1000 ≡ b
+        → orElse fault (cond b (done []) (refused 6 0)) ≡ done [] → Acceptable shares largest
+      go idle q b t e = idle-done e
+      go (refused number flow) q b t e = refused-done e
+      go (done values) q false t e = refused-done e
+      go (done values) q true t e =
+        record
+        {
+          pair = p;
+          sum = leb-true _ 1000 t;
+          each = λ f l. fault-none 0 (length shares) values q f (omega arith) (omega arith)
+        }
+
+  -- the state that an accepted opening gives
+  abbrev opened : State
+  opened = state (newRecord shares largest) (replicate 4096 0) (replicate 4096 0)
+
+  -- an accepted opening has an acceptable table, and gives that state
+  accepted-out : (lengths handles : List ℕ) → openingRule shares largest lengths handles .reply ≡ done []
+      → Acceptable shares largest × (openingRule shares largest lengths handles .state ≡ opened)
+  unfolding openingRule pairRule
+  accepted-out lengths handles e = go (lent lengths handles) (paired shares largest) refl (tableReply shares largest) refl e
+    where
+      given : Bool → Bool → Reply → Outcome
+      given a b reply = cond a (cond b (openedBy reply shares largest lengths handles) (outcome (refused 3 0) blank lengths handles))
+        (outcome (refused 1 0) blank lengths handles)
+
+      go : (a b : Bool) → paired shares largest ≡ b → (reply : Reply) → tableReply shares largest ≡ reply
+        → given a b reply .reply ≡ done [] → Acceptable shares largest × (given a b reply .state ≡ opened)
+      go false b p reply t e = refused-done e
+      go true false p reply t e = refused-done e
+      go true true p idle t e = idle-done e
+      go true true p (refused number flow) t e = refused-done e
+      go true true p (done values) t e = (table-done p (t ∙ e), refl)
+
+  opened-flow : (f : ℕ) → f < 64 → flowAt (newRecord shares largest) f ≡ newFlow (getD shares f 0) (getD largest f 0)
+  unfolding newRecord newFlows
+  opened-flow f l = rw (listed-at (λ i. newFlow (getD shares i 0) (getD largest i 0)) 0 64 f noFlow l, zero-add f)
+
+  module _ (A : Acceptable shares largest) where
+    -- the lists are of one length, 1 to 64
+    opened-size : (length shares ≡ length largest) × (1 ≤ length shares) × (length shares ≤ 64)
+    opened-size = let p = both-true (eqb (length shares) (length largest)) (within 1 64 (length shares)) (A .pair) in
+        (eqb-true _ _ (p .0), within-bounds 1 64 (length shares) (p .1) .0, within-bounds 1 64 (length shares) (p .1) .1)
+
+    -- every flow of the table is in form
+    opened-each : (f : ℕ) → f < length shares → FlowFormed (newRecord shares largest) (replicate 4096 0) f
+    unfolding newRecord
+    opened-each f l =
+        record
+        {
+          range = rw (opened-flow f inside) (ranged-in w (omega (arith,
+            within-bounds 1 1000 (getD shares f 0) (A .each f l .0), within-bounds 1 1500 (getD largest f 0) (A .each f l .1))));
+          queue = rw (opened-flow f inside) (queue-in f (replicate 4096 0) w λ k h. absurd (not-suc-le-zero h));
+          tag = rw (opened-flow f inside) (tag-idle-in 0 (newRecord shares largest .width) w refl (omega arith))
+        }
+      where
+        w : Flow
+        w = newFlow (getD shares f 0) (getD largest f 0)
+
+        inside : f < 64
+        inside = omega (arith, opened-size)
+
+    -- beyond the lists both numbers are 0
+    opened-rest : (f : ℕ) → length shares ≤ f → f < 64 → spareFlow (flowAt (newRecord shares largest) f) ≡ true
+    opened-rest f l b = rw (opened-flow f b, List·getD-eq-default shares 0 l, List·getD-eq-default largest 0 {n = f} (omega (arith, opened-size))) spare-in
+
+    opened-form : Formed (newRecord shares largest) (replicate 4096 0)
+    unfolding newRecord
+    opened-form =
+        record
+        {
+          some = opened-size .1;
+          few = opened-size .2;
+          shares = A .sum;
+          width = refl;
+          each = opened-each;
+          link = omega arith;
+          clock = omega arith;
+          rest = opened-rest
+        }
+
+    opened-rows : length (newRecord shares largest .flow) ≡ 64
+    unfolding newRecord newFlows
+    opened-rows = length-listed (λ i. newFlow (getD shares i 0) (getD largest i 0)) 0 64
+
+    -- a field that opens with 0
+    opened-zero : (field : Flow → ℕ) → ((share most : ℕ) → field (newFlow share most) ≡ 0)
+        → (f : ℕ) → f < newRecord shares largest .flows → field (flowAt (newRecord shares largest) f) ≡ 0
+    opened-zero field e f l = ap field (opened-flow f (omega (arith, opened-form .few))) ∙ e (getD shares f 0) (getD largest f 0)
+
+    -- the state is steady
+    opened-steady : Steady opened
+    opened-steady =
+        record
+        {
+          rows = opened-rows;
+          lengths-lent = refl;
+          handles-lent = refl;
+          form = opened-form;
+          good = reset-good (tableOf (newRecord shares largest))
+            (opened-zero (λ w. w .tag .0) λ share most. refl)
+            (λ f l. charge-idle opened f (opened-zero (λ w. w .waiting) (λ share most. refl) f l))
+        }
+
+-- an accepted opening gives a steady state
+pub accepted-steady : (shares largest lengths handles : List ℕ) → openingRule shares largest lengths handles .reply ≡ done []
+    → Steady (openingRule shares largest lengths handles .state)
+accepted-steady shares largest lengths handles e =
+    let A = accepted-out shares largest lengths handles e in
+    rw (A .1) (opened-steady shares largest (A .0))
