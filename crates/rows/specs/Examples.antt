@@ -6,7 +6,8 @@ use mathlib.Core.List.{List, [], _∷_, _++_}
 use Prim.Native.Nat.{ℕ}
 use lib.ListN.{replicate}
 use Rattle.uplink.specs.State.{State}
-use Rattle.rows.specs.Script.{Call, opening, arrival, pick, run, start}
+use Rattle.uplink.specs.Calls.{Call, opening, arrival, pick}
+use Rattle.rows.specs.Script.{run, start}
 
 -- a list of two
 abbrev pub pair : ℕ → ℕ → List ℕ

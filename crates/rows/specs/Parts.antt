@@ -14,8 +14,8 @@ use Rattle.flow.specs.declared.Flow.{Flow}
 use Rattle.flow.specs.declared.ServerTicks.{ServerTicks}
 use Rattle.uplink.specs.Record.{flowAt, counts, flowCost, moved}
 use Rattle.uplink.specs.Reply.{done, packet}
-use Rattle.uplink.specs.State.{State, Outcome, outcome, demand, lent}
-use Rattle.uplink.specs.Form.{formed}
+use Rattle.uplink.specs.State.{State, Outcome, outcome, demand}
+use Rattle.uplink.specs.Form.{checked}
 use Rattle.uplink.specs.Choice.{leadOf}
 use Rattle.uplink.specs.Arrival.{lastPlace, storeRule, joinRule, arrivalRule}
 use Rattle.uplink.specs.Pick.{clockLimit, frontPlace, frontLength, frontHandle, behindLength, leapt, linkAfter}
@@ -30,32 +30,30 @@ abbrev pub arrivalWith : (Flow → ServerTicks → ℕ → ℕ → Flow) → Sta
 arrivalWith joined s f n handle =
     let r = s .held in
     let w = flowAt r f in
-    demand (lent (s .lengths) (s .handles)) 1 s
-    (demand (formed r (s .lengths)) 2 s
+    checked s
     (demand (counts r f) 7 s
     (demand (within 1 (w .largest) n) 8 s
     (demand (ltb (w .waiting) 64) 9 s
     (outcome (done [])
     (moved r (r .clock .0) (r .link .0) (set (r .flow) f (joined w (r .clock) (flowCost w) n)))
     (set (s .lengths) (lastPlace s f) n)
-    (set (s .handles) (lastPlace s f) handle))))))
+    (set (s .handles) (lastPlace s f) handle)))))
 
 -- with the rule's own joined flow it is the rule
 pub arrival-parts : (s : State) (f n handle : ℕ) → arrivalWith joinedFlow s f n handle ≡ arrivalRule s f n handle
-unfolding arrivalRule joinRule storeRule
+unfolding joinRule storeRule
 arrival-parts s f n handle = refl
 
 -- a pick that does something else at Idle, or at the flow of step 2
 abbrev pub pickWith : (State → Outcome) → (State → ℕ → Outcome) → State → Outcome
 pickWith whenIdle serve s =
     let lead = leadOf (s .held .flow) (s .held .flows) in
-    demand (lent (s .lengths) (s .handles)) 1 s
-    (demand (formed (s .held) (s .lengths)) 2 s
-    (cond (lead .waits) (demand (ltb (s .held .clock .0) clockLimit) 10 s (serve s (lead .flow))) (whenIdle s)))
+    checked s
+    (cond (lead .waits) (demand (ltb (s .held .clock .0) clockLimit) 10 s (serve s (lead .flow))) (whenIdle s))
 
 -- with the rule's own parts it is the rule
 pub pick-parts : (s : State) → pickWith idleRule serveRule s ≡ pickRule s
-unfolding pickRule chooseRule
+unfolding chooseRule
 pick-parts s = refl
 
 -- steps 3 to 5 at flow f, with another say on whether the clock leaps and another link time

@@ -2,11 +2,11 @@
 -- Assumes nothing.
 use mathlib.Core.Path.{_≡_, refl}
 use mathlib.Core.Bool.{Bool, true, false, cond}
-use mathlib.Core.List.{map}
 use Prim.Native.Nat.{ℕ, _+_, _*_, _/_, min, _≤_}
 use native.Mathlib.Omega.{arith}
 use lib.Dec.{leb, eqb}
 use borrow.Author.Tests.{eqb-false, le-ltb}
+use Rattle.below.specs.Listed.{mapFirst}
 use Rattle.cost.specs.Cost.{costOf}
 use Rattle.flow.specs.Steps.{leaps, leapClock, frontTag, queued, untagged}
 use Rattle.uplink.specs.Record.{flowAt, moved}
@@ -61,7 +61,7 @@ leaps-at-equality-differs = apart (λ o. o .state .held .clock .0) _ _ refl
 -- "Leaping before looking for nothing waiting, so that Idle keeps a clock": at P4's pick
 abbrev pub idleKeepsClock : State → Outcome
 idleKeepsClock = pickWith
-    (λ s. outcome idle (moved (s .held) (s .held .clock .0) 0 (map untagged (s .held .flow))) (s .lengths) (s .handles))
+    (λ s. outcome idle (moved (s .held) (s .held .clock .0) 0 (mapFirst untagged 64 (s .held .flow))) (s .lengths) (s .handles))
     serveRule
 
 pub idle-keeps-clock-differs : idleKeepsClock noneWaits ≡ pickRule noneWaits → ⊥

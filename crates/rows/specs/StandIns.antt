@@ -14,7 +14,8 @@ use Rattle.uplink.specs.State.{State, Outcome, outcome}
 use Rattle.uplink.specs.Opening.{openingRule}
 use Rattle.uplink.specs.Arrival.{arrivalRule}
 use Rattle.uplink.specs.Pick.{leapt, linkAfter, serveRule, idleRule, pickRule}
-use Rattle.rows.specs.Script.{start, afterCall}
+use Rattle.uplink.specs.Calls.{everyRule}
+use Rattle.rows.specs.Script.{start}
 use Rattle.rows.specs.Examples.{pair, bothWait, flow1Waits, beforeLeap, flow1Leads}
 use Rattle.rows.specs.Parts.{apart, pickWith, serveWith}
 
@@ -49,7 +50,7 @@ refusesPick number flow s = record { reply = refused number flow; state = s }
 pub refuses-opening-differs : (number flow : ℕ) →
     refusesOpening number flow (pair 600 400) (pair 100 100) (start .lengths) (start .handles)
     ≡ openingRule (pair 600 400) (pair 100 100) (start .lengths) (start .handles) → ⊥
-unfolding afterCall
+unfolding everyRule
 refuses-opening-differs number flow = apart (λ o. refusals (o .reply)) _ _ refl
 
 -- it does not take 100 bytes more at flow 0

@@ -9,7 +9,7 @@ use lib.Dec.{ltb, eqb}
 use borrow.Author.Tests.{ltb-true, eq-eqb}
 use Rattle.below.specs.Truth.{both-of}
 use Rattle.cost.specs.Cost.{within, within-bounds}
-use Rattle.flow.specs.Steps.{chargeOf, linkTicks}
+use Rattle.flow.specs.Steps.{chargeOf, linkTicks, leaps, leapClock}
 use Rattle.uplink.specs.Record.{flowAt, flowCost, counts}
 use Rattle.uplink.specs.Reply.{Reply, idle, done, refused}
 use Rattle.uplink.specs.State.{State, Outcome, demand, kept, lent}
@@ -23,8 +23,10 @@ use Rattle.shares.specs.Bridge.{Steady, tableOf, viewOf}
 use Rattle.shares.specs.Start.{MovesOn}
 use Rattle.shares.specs.Store.{store-steady, store-table, store-start}
 use Rattle.shares.specs.Serve.{serve-in-time, serve-steady, serve-table, serve-clock-on, serve-moves}
+use Rattle.shares.specs.Replies.{idle-done, idle-refused, Late}
+use Rattle.shares.specs.Opened.{opening-late}
 use Rattle.shares.specs.Idle.{idle-steady, idle-table}
-use Rattle.shares.specs.Runs.{Call, opening, arrival, pick, takeRule, somethingWaits, Taken, Gives, Plain, chargeIn, chargeFor}
+use Rattle.shares.specs.Runs.{Call, opening, arrival, pick, takeRule, somethingWaits, Taken, Gives, Plain, chargeIn, chargeFor, valueIn}
 
 -- a test that the call goes on with, or is refused by
 demanded : (P : Outcome → Type 0) (test : Bool) (number : ℕ) (s : State) (on : Outcome)
@@ -37,6 +39,21 @@ pub record Counts (f cost : ℕ) (s : State) (o : Outcome) : Type 0 where
   pub ahead : o .state .held .clock .0 ≤ viewOf (o .state) .tag f
   pub clock : s .held .clock .0 + 720 * chargeIn (o .reply) ≤ o .state .held .clock .0
   pub start : MovesOn f cost (chargeFor f (o .reply)) (viewOf s) (viewOf (o .state))
+
+-- what a reply has to do with the clocks
+pub record Clocks (s : State) (o : Outcome) : Type 0 where
+  pub link : o .state .held .link .0 ≡ s .held .link .0 + 720 * chargeIn (o .reply)
+  pub clock : o .state .held .clock .0 ≡ s .held .clock .0 + 720 * chargeIn (o .reply) + s .held .width * valueIn 4 (o .reply)
+  pub width : o .state .held .width ≡ s .held .width
+
+-- a leap adds Δ once
+leap-clock : (clock width T ticks : ℕ)
+    → leapClock clock width T + ticks ≡ clock + ticks + width * cond (leaps clock width T) 1 0
+leap-clock clock width T ticks = go (leaps clock width T)
+  where
+    go : (b : Bool) → cond b (clock + width) clock + ticks ≡ clock + ticks + width * cond b 1 0
+    go true = omega arith
+    go false = omega arith
 
 module _ (s : State) (S : Steady s) where
   -- neither 1 nor 2 is met
@@ -112,13 +129,28 @@ module _ (s : State) (S : Steady s) (call : Call) (o : Outcome) (plain : Plain c
       call o plain gives (λ g n handle b some short room. (refl, refl)) (λ p _. absurd (other p)) λ p _ _ _. absurd (other p)
 
   -- no call but an opening is refused with 1 or 2
-  pub call-formed : (flow : ℕ) → (o .reply ≡ refused 1 flow → ⊥) × (o .reply ≡ refused 2 flow → ⊥)
+  pub call-formed : Late (o .reply)
   unfolding storeRule serveRule idleRule
-  call-formed flow = call-cases s S (λ o. (o .reply ≡ refused 1 flow → ⊥) × (o .reply ≡ refused 2 flow → ⊥)) ?
-      call o plain gives ? ? ?
+  call-formed = call-cases s S (λ o. Late (o .reply)) (λ number late. omega arith)
+      call o plain gives (λ f n handle b some short room. omega arith) (λ _ _. omega arith) λ _ f small _. omega arith
 
   -- no picked packet leaves the clock above its tag
-  pub call-in-time : (flow length handle tag leapt clock : ℕ) → o .reply ≡ done (flow ∷ length ∷ handle ∷ tag ∷ leapt ∷ clock ∷ []) → clock ≤ tag
+  pub call-in-time : valueIn 5 (o .reply) ≤ valueIn 3 (o .reply)
   unfolding storeRule serveRule idleRule
-  call-in-time flow length handle tag leapt clock = call-cases s S
-      (λ o. o .reply ≡ done (flow ∷ length ∷ handle ∷ tag ∷ leapt ∷ clock ∷ []) → clock ≤ tag) ? call o plain gives ? ? ?
+  call-in-time = call-cases s S (λ o. valueIn 5 (o .reply) ≤ valueIn 3 (o .reply)) (λ number _. omega arith)
+      call o plain gives (λ f n handle b some short room. omega arith) (λ _ _. omega arith) λ _ f small _. serve-in-time s f S small
+
+  -- the clocks: both go on by what was picked, and the server clock by Δ where it leapt; only Idle takes them back
+  pub call-clocks : (o .reply ≡ idle → ⊥) → Clocks s o
+  unfolding storeRule serveRule idleRule
+  call-clocks = call-cases s S (λ o. (o .reply ≡ idle → ⊥) → Clocks s o) (λ number _ _. omega arith) call o plain gives
+      (λ f n handle b some short room _. omega arith)
+      (λ _ _ never. absurd (never refl))
+      λ _ f small _ _. record { link = refl; clock = leap-clock (s .held .clock .0) (s .held .width) (flowAt (s .held) f .tag .0) _; width = refl }
+
+  -- Idle sets both to 0
+  pub call-idle : o .reply ≡ idle → (o .state .held .clock .0 ≡ 0) × (o .state .held .link .0 ≡ 0)
+  unfolding storeRule serveRule idleRule
+  call-idle = call-cases s S (λ o. o .reply ≡ idle → (o .state .held .clock .0 ≡ 0) × (o .state .held .link .0 ≡ 0))
+      (λ number _ e. idle-refused (sym e)) call o plain gives
+      (λ f n handle b some short room e. idle-done (sym e)) (λ _ _ _. (refl, refl)) λ _ f small _ e. idle-done (sym e)

@@ -8,4 +8,6 @@ pub mod Serve
 pub mod Idle
 pub mod Opened
 pub mod Runs
+pub mod Replies
 pub mod Calls
+pub mod Stretches

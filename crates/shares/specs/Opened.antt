@@ -22,6 +22,7 @@ use Rattle.uplink.specs.Reply.{Reply, idle, done, refused}
 use Rattle.uplink.specs.State.{State, Outcome, state, outcome, lent}
 use Rattle.uplink.specs.Formed.{Formed, FlowFormed}
 use Rattle.uplink.specs.Opening.{newFlow, newFlows, newRecord, paired, faultFrom, orElse, tableReply, openedBy, pairRule, openingRule}
+use Rattle.shares.specs.Replies.{refused-done, idle-done, Late}
 use Rattle.shares.specs.Keep.{reset-good}
 use Rattle.shares.specs.Bridge.{Steady, tableOf, charge-idle}
 
@@ -34,13 +35,6 @@ record Acceptable (shares largest : List ℕ) : Type 0 where
   pair : paired shares largest ≡ true
   sum : sharesOf (newFlows shares largest) (length shares) ≤ 1000
   each : (f : ℕ) → f < length shares → InRange shares largest f
-
--- a refusal is not done, and neither is Idle
-refused-done : {A : Type 0} {number flow : ℕ} {values : List ℕ} → refused number flow ≡ done values → A
-refused-done e = let z : _≡_ {A = ℕ} 0 1 = cc in absurd (omega arith)
-
-idle-done : {A : Type 0} {values : List ℕ} → idle ≡ done values → A
-idle-done e = let z : _≡_ {A = ℕ} 0 1 = cc in absurd (omega arith)
 
 -- two tests that were passed on the way to a reply that is done
 both-passed : (a b : Bool) (f g : ℕ) (on : Reply) (values : List ℕ)
@@ -102,6 +96,7 @@ module _ (shares largest : List ℕ) where
       go true true p (refused number flow) t e = refused-done e
       go true true p (done values) t e = (table-done p (t ∙ e), refl)
 
+  -- flow f as it opens
   opened-flow : (f : ℕ) → f < 64 → flowAt (newRecord shares largest) f ≡ newFlow (getD shares f 0) (getD largest f 0)
   unfolding newRecord newFlows
   opened-flow f l = rw (listed-at (λ i. newFlow (getD shares i 0) (getD largest i 0)) 0 64 f noFlow l, zero-add f)
@@ -178,3 +173,38 @@ pub accepted-steady : (shares largest lengths handles : List ℕ) → openingRul
 accepted-steady shares largest lengths handles e =
     let A = accepted-out shares largest lengths handles e in
     rw (A .1) (opened-steady shares largest (A .0))
+
+-- and both its clocks are 0
+pub accepted-clocks : (shares largest lengths handles : List ℕ) → openingRule shares largest lengths handles .reply ≡ done []
+    → (openingRule shares largest lengths handles .state .held .clock .0 ≡ 0) × (openingRule shares largest lengths handles .state .held .link .0 ≡ 0)
+unfolding newRecord
+accepted-clocks shares largest lengths handles e = rw (accepted-out shares largest lengths handles e .1) (refl, refl)
+
+-- no fault has number 1 or 2
+fault-late : (shares largest : List ℕ) (f n : ℕ) → Late (faultFrom shares largest f n)
+unfolding faultFrom
+fault-late shares largest f zero = omega arith
+fault-late shares largest f (suc n) =
+    go (within 1 1000 (getD shares f 0)) (within 1 1500 (getD largest f 0)) _ (fault-late shares largest (suc f) n)
+  where
+    go : (a b : Bool) (on : Reply) → Late on → Late (cond a (cond b on (refused 5 f)) (refused 4 f))
+    go true true on late = late
+    go true false on late = omega arith
+    go false b on late = omega arith
+
+-- an opening that is lent memories of 4,096 places is not refused with 1 or 2
+pub opening-late : (shares largest lengths handles : List ℕ) → lent lengths handles ≡ true
+    → Late (openingRule shares largest lengths handles .reply)
+unfolding openingRule pairRule tableReply
+opening-late shares largest lengths handles e = rw e
+    (go (paired shares largest) (faultFrom shares largest 0 (length shares)) (fault-late shares largest 0 (length shares))
+    (leb (sharesOf (newFlows shares largest) (length shares)) 1000))
+  where
+    go : (a : Bool) (fault : Reply) → Late fault → (b : Bool)
+      → Late (cond a (openedBy (orElse fault (cond b (done []) (refused 6 0))) shares largest lengths handles)
+        (outcome (refused 3 0) blank lengths handles) .reply)
+    go false fault late b = omega arith
+    go true idle late b = omega arith
+    go true (refused number flow) late b = late
+    go true (done values) late true = omega arith
+    go true (done values) late false = omega arith

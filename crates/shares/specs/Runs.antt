@@ -84,9 +84,9 @@ pub data Carried : State → Type 0 where
 pub data Restarted : State → Type 0 where
   opened : (shares largest lengths handles : List ℕ) → openingRule shares largest lengths handles .reply ≡ done []
     → Restarted (openingRule shares largest lengths handles .state)
-  idled : (s : State) (o : Outcome) → Taken s o → o .reply ≡ idle → Restarted (o .state)
+  idled : (s : State) (o : Outcome) → Carried s → Taken s o → o .reply ≡ idle → Restarted (o .state)
 
--- what a reply says was picked: its charge in all, its charge where it is of flow f, and 1 where the clock leapt
+-- what a reply says was picked: its charge in all, and its charge where it is of flow f
 abbrev pub chargeIn : Reply → ℕ
 chargeIn idle = 0
 chargeIn (refused number flow) = 0
@@ -99,11 +99,17 @@ chargeFor f (refused number flow) = 0
 chargeFor f (done []) = 0
 chargeFor f (done (flow ∷ rest)) = cond (eqb flow f) (chargeOf (getD rest 0 0)) 0
 
-abbrev pub leapIn : Reply → ℕ
-leapIn idle = 0
-leapIn (refused number flow) = 0
-leapIn (done []) = 0
-leapIn (done (flow ∷ rest)) = getD rest 3 0
+-- the k-th value of a reply that is done: of a pick's, 3 is the tag, 4 is 1 where the clock leapt, and 5 is the clock
+abbrev pub valueIn : ℕ → Reply → ℕ
+valueIn k idle = 0
+valueIn k (refused number flow) = 0
+valueIn k (done values) = getD values k 0
+
+-- the number of a refusal
+abbrev pub refusalIn : Reply → ℕ
+refusalIn idle = 0
+refusalIn (refused number flow) = number
+refusalIn (done values) = 0
 
 -- a figure added up over the replies
 abbrev pub total : (Reply → ℕ) → List Event → ℕ
@@ -118,7 +124,7 @@ abbrev pub pickedOf : ℕ → List Event → ℕ
 pickedOf f = total (chargeFor f)
 
 abbrev pub leapsOf : List Event → ℕ
-leapsOf = total leapIn
+leapsOf = total (valueIn 4)
 
 -- flow f has a packet waiting at every pick
 abbrev pub WaitsAtPicks : ℕ → State → List Event → Type 0

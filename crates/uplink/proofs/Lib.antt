@@ -1,9 +1,12 @@
 -- `Testing`: what each way through the form test finds. `Choosing`: what a turn of the search finds.
 -- `Checking`: the checks that every call on a record begins with. `Readying`: what the checks of a call leave for the step behind them.
--- `Arriving`, `Picking`: what each way through an arrival and a pick gives.
+-- `Opens`, `Arriving`, `Picking`: what each way through an opening, an arrival and a pick gives.
+-- `DeterminedOpening`: any two outcomes of an opening are equal.
 pub mod Testing
 pub mod Choosing
 pub mod Checking
 pub mod Readying
+pub mod Opens
 pub mod Arriving
 pub mod Picking
+pub mod DeterminedOpening

@@ -3,6 +3,7 @@
 -- `Form`: when a record is well formed. `Choice`: which flow is picked. `Opening`, `Arrival`, `Pick`: the rules of the three calls.
 pub mod Record
 pub mod Reply
+pub mod Replies
 pub mod State
 pub mod Form
 pub mod Tested
@@ -13,3 +14,4 @@ pub mod Chosen
 pub mod Opening
 pub mod Arrival
 pub mod Pick
+pub mod Calls

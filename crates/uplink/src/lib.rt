@@ -6,6 +6,7 @@ ghost use Rattle.uplink.specs.Record.{blank};
 mod choice;
 mod arrival;
 mod form;
+mod opening;
 mod pick;
 
 use flow::{Flow, LinkTicks, ServerTicks};
