@@ -56,9 +56,10 @@ allBelow-turn p i ok here e h = ap₂ _&&_ e h ∙ sym (allBelow-more p i)
 pub allBelow-at : (p : ℕ → Bool) (n : ℕ) → allBelow p n ≡ true → (k : ℕ) → k < n → p k ≡ true
 unfolding allBelow
 allBelow-at p zero e k h = absurd (not-suc-le-zero h)
-allBelow-at p (suc n) e k h = elim (ℕ-discrete k n) as (λ _. p k ≡ true)
-  [ yes q ↦ ap p q ∙ both-true (allBelow p n) (p n) e .1
-  | no q ↦ allBelow-at p n (both-true (allBelow p n) (p n) e .0) k (omega arith) ]
+allBelow-at p (suc n) e k h = elim (ℕ-discrete k n) as (λ _. p k ≡ true) [
+  | yes q ↦ ap p q ∙ both-true (allBelow p n) (p n) e .1
+  | no q ↦ allBelow-at p n (both-true (allBelow p n) (p n) e .0) k (omega arith)
+]
 
 -- and is so where each says it
 pub allBelow-of : (p : ℕ → Bool) (n : ℕ) → ((k : ℕ) → k < n → p k ≡ true) → allBelow p n ≡ true
@@ -86,9 +87,10 @@ mostBelow-same g h (suc n) e = ap₂ max (mostBelow-same g h n (λ k l. e k (ome
 pub mostBelow-least : (g : ℕ → ℕ) (n k : ℕ) → k < n → g k ≤ mostBelow g n
 unfolding mostBelow
 mostBelow-least g zero k h = absurd (not-suc-le-zero h)
-mostBelow-least g (suc n) k h = elim (ℕ-discrete k n) as (λ _. g k ≤ max (mostBelow g n) (g n))
-  [ yes q ↦ omega (arith, ap g q)
-  | no q ↦ omega (arith, mostBelow-least g n k (omega arith)) ]
+mostBelow-least g (suc n) k h = elim (ℕ-discrete k n) as (λ _. g k ≤ max (mostBelow g n) (g n)) [
+  | yes q ↦ omega (arith, ap g q)
+  | no q ↦ omega (arith, mostBelow-least g n k (omega arith))
+]
 
 pub mostBelow-le : (g : ℕ → ℕ) (n m : ℕ) → ((k : ℕ) → k < n → g k ≤ m) → mostBelow g n ≤ m
 unfolding mostBelow

@@ -68,5 +68,5 @@ cost-found q = go (within 1 1000 q) refl
   where
     go : (b : Bool) → within 1 1000 q ≡ b → cond b (getD costs (q - 1) 0) 0 ≡ cond b (upQuotient 720000 q) 0
     go true e = let h = within-bounds 1 1000 q e in
-      listed-at (upQuotient 720000) 1 1000 (q - 1) 0 (omega arith) ∙ ap (upQuotient 720000) (omega arith)
+        listed-at (upQuotient 720000) 1 1000 (q - 1) 0 (omega arith) ∙ ap (upQuotient 720000) (omega arith)
     go false e = refl

@@ -47,9 +47,9 @@ module _ (r : Record) (lengths handles : List ℕ) (f n handle : ℕ) where
   pub stored : (table : List ℕ) (at cost : ℕ) (joined : Flow) → table ≡ costs → at ≡ lastPlace (state r lengths handles) f
       → cost ≡ costIn table (flowAt r f .share) → joined ≡ joinedFlow (flowAt r f) (r .clock) cost n
       → outcome (done [])
-        (record { flows = r .flows; width = r .width; clock = r .clock; link = r .link; flow = set (r .flow) f joined })
-        (set lengths at n)
-        (set handles at handle)
+      (record { flows = r .flows; width = r .width; clock = r .clock; link = r .link; flow = set (r .flow) f joined })
+      (set lengths at n)
+      (set handles at handle)
       ≡ storeRule (state r lengths handles) f n handle
   unfolding storeRule
   stored table at cost joined t a p j = rw (a, j, priced table cost (flowAt r f .share) t p)

@@ -34,8 +34,13 @@ pub rest-none : (r : Record) → moved r 0 0 (r .flow) ≡ moved r 0 0 (mapFirst
 rest-none r = ap (moved r 0 0) (mapFirst-none untagged (r .flow))
 
 pub rest-turn : (r next : Record) (n : ℕ) → next ≡ moved r 0 0 (mapFirst untagged n (r .flow))
-    → record { flows = next .flows; width = next .width; clock = next .clock; link = next .link;
-        flow = set (next .flow) n (untagged (getD (next .flow) n noFlow)) }
+    → record {
+      flows = next .flows;
+      width = next .width;
+      clock = next .clock;
+      link = next .link;
+      flow = set (next .flow) n (untagged (getD (next .flow) n noFlow));
+    }
     ≡ moved r 0 0 (mapFirst untagged (n + 1) (r .flow))
 rest-turn r next n e = rw e (ap (moved r 0 0) (mapFirst-more untagged n (r .flow) noFlow))
 
@@ -69,9 +74,9 @@ module _ (r : Record) (lengths handles table : List ℕ) (f front behind sent co
       → cost ≡ costIn table (flowAt r f .share)
       → next ≡ servedFlow (flowAt r f) (record { 0 = leap .clock .0 + sent }) cost (getD lengths behind 0)
       → outcome (packet f (getD lengths front 0) (getD handles front 0) (flowAt r f .tag .0) (leap .leapt) (leap .clock .0 + sent))
-        (moved r (leap .clock .0 + sent) (r .link .0 + sent) (set (r .flow) f next))
-        (set lengths front 0)
-        (set handles front 0)
+      (moved r (leap .clock .0 + sent) (r .link .0 + sent) (set (r .flow) f next))
+      (set lengths front 0)
+      (set handles front 0)
       ≡ serveRule (state r lengths handles) f
   unfolding serveRule leapRule
   served t a b l s c n = rw (n, priced table cost (flowAt r f .share) t c, s, l, a, b)

@@ -34,8 +34,7 @@ tag-fits r lengths F f h =
 pub storable : (r : Record) (f n : ℕ) (table lengths handles : List ℕ) → Ready r table lengths handles → f < r .flows
     → n ≤ flowAt r f .largest → flowAt r f .waiting < 64 → Storable r f n table lengths handles
 storable r f n table lengths handles R h l w =
-    record
-    {
+    record {
       table-right = R .table-right;
       lengths-lent = R .lengths-lent;
       handles-lent = R .handles-lent;
@@ -43,7 +42,7 @@ storable r f n table lengths handles R h l w =
       room = w;
       tag = tag-fits r lengths (R .formed) f h;
       clock = omega (arith, R .formed .clock);
-      short = omega (arith, ranged-out (flowAt r f) (R .formed .each f h .range) .largest-high)
+      short = omega (arith, ranged-out (flowAt r f) (R .formed .each f h .range) .largest-high);
     }
 
 -- past Idle and refusal 10
@@ -54,8 +53,7 @@ servable r table lengths handles lead R led w late =
     let least = rw (← led) at (leads (r .flow) (r .flows)) in
     let chosen = least .smallest (not-false (lead .waits) w) in
     let F = R .formed in
-    record
-    {
+    record {
       table-right = R .table-right;
       lengths-lent = R .lengths-lent;
       handles-lent = R .handles-lent;
@@ -65,5 +63,5 @@ servable r table lengths handles lead R led w late =
       tag = tag-fits r lengths F (lead .flow) (chosen .counts);
       clock = late;
       link = omega (arith, F .link);
-      width = width-most r lengths F
+      width = width-most r lengths F;
     }

@@ -102,8 +102,8 @@ tested-out : (r : Record) (lengths : List ℕ) → flowsTested r lengths ≡ tru
 unfolding flowTested
 tested-out r lengths e f h =
     let parts =
-      three-true (ranged (flowAt r f)) (tagFormed (r .clock .0) (r .width) (flowAt r f)) (queueFormed f lengths (flowAt r f))
-      (allBelow-at (λ g. flowTested (r .clock .0) (r .width) g lengths (flowAt r g)) _ (tested-parts r lengths e .0) f h)
+    three-true (ranged (flowAt r f)) (tagFormed (r .clock .0) (r .width) (flowAt r f)) (queueFormed f lengths (flowAt r f))
+    (allBelow-at (λ g. flowTested (r .clock .0) (r .width) g lengths (flowAt r g)) _ (tested-parts r lengths e .0) f h)
     in
     record { range = parts .0; queue = parts .2; tag = parts .1 }
 
@@ -150,8 +150,7 @@ module _ (r : Record) (lengths : List ℕ) where
 
       whole : restSpare r ≡ true → Formed r lengths
       whole t =
-          record
-          {
+          record {
             some = some;
             few = few;
             shares = leb-true _ _ (tested-parts r lengths tested .1);
@@ -159,7 +158,7 @@ module _ (r : Record) (lengths : List ℕ) where
             each = tested-out r lengths tested;
             link = link;
             clock = clock;
-            rest = rest-out r t
+            rest = rest-out r t;
           }
 
 -- the end of the test of the flows beyond

@@ -28,19 +28,19 @@ pub record Leads (flows : List Flow) (n : ℕ) (lead : Lead) : Type 0 where
 
 leads-none : (flows : List Flow) → Leads flows 0 noLead
 leads-none flows =
-    record
-    {
+    record {
       smallest = λ e. true-false (sym e);
       own = λ e. true-false (sym e);
       lowest = λ e. true-false (sym e);
-      nobody = λ e g h. absurd (not-suc-le-zero h)
+      nobody = λ e g h. absurd (not-suc-le-zero h);
     }
 
 -- what holds of the numbers below n, and of n, holds of those below n + 1
 below-suc : (P : ℕ → Type 0) (n : ℕ) → ((g : ℕ) → g < n → P g) → P n → (g : ℕ) → g < suc n → P g
-below-suc P n each here g h = elim (ℕ-discrete g n) as (λ _. P g)
-  [ yes q ↦ rw q here
-  | no q ↦ each g (omega arith) ]
+below-suc P n each here g h = elim (ℕ-discrete g n) as (λ _. P g) [
+  | yes q ↦ rw q here
+  | no q ↦ each g (omega arith)
+]
 
 abbrev waitsAt : List Flow → ℕ → ℕ
 waitsAt flows g = getD flows g noFlow .waiting
@@ -52,26 +52,25 @@ module _ (flows : List Flow) (n : ℕ) (lead : Lead) (L : Leads flows n lead) wh
   -- the leader stays where flow n does not wait, or has no smaller tag
   leads-stay : (0 < waitsAt flows n → (lead .waits ≡ true) × (lead .tag .0 ≤ tagAt flows n)) → Leads flows (suc n) lead
   leads-stay h =
-      record
-      {
+      record {
         smallest = λ e.
-          let s = L .smallest e in
-          record
-          {
-            counts = omega (arith, s .counts);
-            waits = s .waits;
-            least = below-suc (λ g. 0 < waitsAt flows g → tagAt flows (lead .flow) ≤ tagAt flows g) n (s .least)
-              λ w. omega (arith, L .own e, h w .1)
-          };
+            let s = L .smallest e in
+            record {
+              counts = omega (arith, s .counts);
+              waits = s .waits;
+              least = below-suc (λ g. 0 < waitsAt flows g → tagAt flows (lead .flow) ≤ tagAt flows g) n (s .least)
+                  λ w. omega (arith, L .own e, h w .1);
+            };
         own = L .own;
         lowest = L .lowest;
-        nobody = λ e. below-suc (λ g. waitsAt flows g ≡ 0) n (L .nobody e) (still e)
+        nobody = λ e. below-suc (λ g. waitsAt flows g ≡ 0) n (L .nobody e) (still e);
       }
     where
       still : lead .waits ≡ false → waitsAt flows n ≡ 0
-      still e = elim (ℕ-discrete (waitsAt flows n) 0) as (λ _. waitsAt flows n ≡ 0)
-        [ yes q ↦ q
-        | no q ↦ true-false (sym (h (omega arith) .0) ∙ e) ]
+      still e = elim (ℕ-discrete (waitsAt flows n) 0) as (λ _. waitsAt flows n ≡ 0) [
+        | yes q ↦ q
+        | no q ↦ true-false (sym (h (omega arith) .0) ∙ e)
+      ]
 
   -- every waiting flow below n has a larger tag than flow n
   move-below : (lead .waits ≡ true → tagAt flows n < lead .tag .0) → (g : ℕ) → g < n → 0 < waitsAt flows g → tagAt flows n < tagAt flows g
@@ -84,20 +83,18 @@ module _ (flows : List Flow) (n : ℕ) (lead : Lead) (L : Leads flows n lead) wh
   -- flow n leads where it waits and nobody led, or its tag is smaller
   leads-move : 0 < waitsAt flows n → (lead .waits ≡ true → tagAt flows n < lead .tag .0) → Leads flows (suc n) (record { waits = true; flow = n; tag = getD flows n noFlow .tag })
   leads-move w h =
-      record
-      {
+      record {
         smallest = λ _.
-          record
-          {
-            counts = omega arith;
-            waits = w;
-            least = below-suc (λ g. 0 < waitsAt flows g → tagAt flows n ≤ tagAt flows g) n
-              (λ g l v. omega (arith, move-below h g l v))
-              λ _. omega arith
-          };
+            record {
+              counts = omega arith;
+              waits = w;
+              least = below-suc (λ g. 0 < waitsAt flows g → tagAt flows n ≤ tagAt flows g) n
+                  (λ g l v. omega (arith, move-below h g l v))
+                  λ _. omega arith;
+            };
         own = λ _. refl;
         lowest = λ _. move-below h;
-        nobody = λ e. true-false e
+        nobody = λ e. true-false e;
       }
 
   leads-more : Leads flows (suc n) (ahead lead (getD flows n noFlow) n)
@@ -108,7 +105,7 @@ module _ (flows : List Flow) (n : ℕ) (lead : Lead) (L : Leads flows n lead) wh
       here = record { waits = true; flow = n; tag = getD flows n noFlow .tag }
 
       go : (a : Bool) → eqb (waitsAt flows n) 0 ≡ a → (b : Bool) → lead .waits ≡ b → (c : Bool) → leb (lead .tag .0) (tagAt flows n) ≡ c
-        → Leads flows (suc n) (cond a lead (cond b (cond c lead here) here))
+          → Leads flows (suc n) (cond a lead (cond b (cond c lead here) here))
       go true p b q c t = leads-stay λ w. absurd (omega (arith, eqb-true (waitsAt flows n) 0 p))
       go false p true q true t = leads-stay λ w. (q, leb-true (lead .tag .0) (tagAt flows n) t)
       go false p true q false t = leads-move (omega (arith, eqb-false (waitsAt flows n) 0 p)) λ _. leb-false (lead .tag .0) (tagAt flows n) t

@@ -44,23 +44,21 @@ formed-out r lengths e =
     let table = four-true (within 1 64 (r .flows)) _ _ _ (four .0) in
     let size = within-bounds 1 64 (r .flows) (table .0) in
     let clocks = both-true (leb (r .link .0) (r .clock .0)) _ (four .3) in
-    record
-    {
+    record {
       some = size .0;
       few = size .1;
       shares = leb-true _ _ (table .2);
       width = eqb-true _ _ (table .3);
       each = λ f h.
-        let queue = both-true (placed (flowAt r f)) _ (allBelow-at _ _ (four .1) f h) in
-        record
-        {
-          range = both-of _ _ (allBelow-at _ _ (table .1) f h) (queue .0);
-          queue = queue .1;
-          tag = allBelow-at _ _ (four .2) f h
-        };
+          let queue = both-true (placed (flowAt r f)) _ (allBelow-at _ _ (four .1) f h) in
+          record {
+            range = both-of _ _ (allBelow-at _ _ (table .1) f h) (queue .0);
+            queue = queue .1;
+            tag = allBelow-at _ _ (four .2) f h;
+          };
       link = leb-true _ _ (clocks .0);
       clock = ltb-true _ _ (clocks .1);
-      rest = λ f h l. or-right (counts r f) _ (allBelow-at _ _ (parts .1) f l) (le-ltb f (r .flows) h)
+      rest = λ f h l. or-right (counts r f) _ (allBelow-at _ _ (parts .1) f l) (le-ltb f (r .flows) h);
     }
 
 pub formed-in : (r : Record) (lengths : List ℕ) → Formed r lengths → formed r lengths ≡ true
@@ -82,5 +80,9 @@ formed-in r lengths F =
 pub width-most : (r : Record) (lengths : List ℕ) → Formed r lengths → r .width ≤ 1080000000
 unfolding widthOf
 width-most r lengths F =
-    omega (arith, F .width, mostBelow-le _ (r .flows) 1080000000 λ f h.
-      mul-le-mul (ranged-out (flowAt r f) (F .each f h .range) .largest-high) (cost-most (flowAt r f .share)))
+    omega (
+      arith,
+      F .width,
+      mostBelow-le _ (r .flows) 1080000000 λ f h.
+          mul-le-mul (ranged-out (flowAt r f) (F .each f h .range) .largest-high) (cost-most (flowAt r f .share)),
+    )

@@ -25,13 +25,12 @@ newFlows shares largest = listed (λ f. newFlow (getD shares f 0) (getD largest 
 -- "the record with clock, link time, tags, firsts and waiting numbers 0"
 unfoldable pub newRecord : List ℕ → List ℕ → Record
 newRecord shares largest =
-    record
-    {
+    record {
       flows = length shares;
       width = widthOf (newFlows shares largest) (length shares);
       clock = ticks 0;
       link = record { 0 = 0 };
-      flow = newFlows shares largest
+      flow = newFlows shares largest;
     }
 
 -- 3: the two lists are of one length, 1 to 64

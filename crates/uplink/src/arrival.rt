@@ -4,13 +4,25 @@ ghost use Rattle.uplink.specs.Reply.{arrivalReply};
 ghost use Rattle.uplink.specs.State.{state, outcome};
 ghost use Rattle.uplink.specs.Ready.{Ready, Storable};
 ghost use Rattle.uplink.specs.Arrival.{storeRule, joinRule, arrivalRule};
-use crate::{ArrivalReply, Arrived, Record, Refusal};
+use crate::ArrivalReply;
+use crate::Arrived;
+use crate::Record;
+use crate::Refusal;
 
 impl Record {
     // The packet is taken: it goes behind the flow's last one.
-    fn store(self, table: &[u32; 1000], flow: u32, length: u32, handle: u32, lengths: &mut [u16], handles: &mut [u32]) -> Arrived
+    fn store(
+        self,
+        table: &[u32; 1000],
+        flow: u32,
+        length: u32,
+        handle: u32,
+        lengths: &mut [u16],
+        handles: &mut [u32],
+    ) -> Arrived
         requires { ⌜ Storable self flow length (now table) (now lengths) (now handles) ⌝ }
-        ensures { λ r. ⌜ outcome (arrivalReply (r .reply)) (r .next) (now (lengths .exit)) (now (handles .exit)) ≡ storeRule (state self (now (lengths .entry)) (now (handles .entry))) flow length handle ⌝ }
+        ensures { λ r. ⌜ outcome (arrivalReply (r .reply)) (r .next) (now (lengths .exit)) (now (handles .exit))
+            ≡ storeRule (state self (now (lengths .entry)) (now (handles .entry))) flow length handle ⌝ }
     {
         let f = flow as usize;
         let w = self.flow[f];
@@ -29,9 +41,18 @@ impl Record {
     }
 
     // Refusals 7, 8 and 9.
-    fn join(self, table: &[u32; 1000], flow: u32, length: u32, handle: u32, lengths: &mut [u16], handles: &mut [u32]) -> Arrived
+    fn join(
+        self,
+        table: &[u32; 1000],
+        flow: u32,
+        length: u32,
+        handle: u32,
+        lengths: &mut [u16],
+        handles: &mut [u32],
+    ) -> Arrived
         requires { ⌜ Ready self (now table) (now lengths) (now handles) ⌝ }
-        ensures { λ r. ⌜ outcome (arrivalReply (r .reply)) (r .next) (now (lengths .exit)) (now (handles .exit)) ≡ joinRule (state self (now (lengths .entry)) (now (handles .entry))) flow length handle ⌝ }
+        ensures { λ r. ⌜ outcome (arrivalReply (r .reply)) (r .next) (now (lengths .exit)) (now (handles .exit))
+            ≡ joinRule (state self (now (lengths .entry)) (now (handles .entry))) flow length handle ⌝ }
     {
         if self.flows <= flow {
             return Arrived {
@@ -63,8 +84,16 @@ impl Record {
     }
 
     // A packet of `length` bytes, known to the caller by `handle`, comes to `flow`.
-    pub fn arrival(self, flow: u32, length: u32, handle: u32, lengths: &mut [u16], handles: &mut [u32]) -> Arrived
-        ensures exact { λ r. ⌜ outcome (arrivalReply (r .reply)) (r .next) (now (lengths .exit)) (now (handles .exit)) ≡ arrivalRule (state self (now (lengths .entry)) (now (handles .entry))) flow length handle ⌝ }
+    pub fn arrival(
+        self,
+        flow: u32,
+        length: u32,
+        handle: u32,
+        lengths: &mut [u16],
+        handles: &mut [u32],
+    ) -> Arrived
+        ensures exact { λ r. ⌜ outcome (arrivalReply (r .reply)) (r .next) (now (lengths .exit)) (now (handles .exit))
+            ≡ arrivalRule (state self (now (lengths .entry)) (now (handles .entry))) flow length handle ⌝ }
     {
         if lengths.len() != 4096 {
             return Arrived {

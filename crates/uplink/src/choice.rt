@@ -3,7 +3,8 @@ ghost use mathlib.Core.Path.{_≡_};
 ghost use Prim.Native.Nat.{_≤_};
 ghost use Rattle.uplink.specs.Choice.{ahead, leadOf};
 use crate::Record;
-use flow::{Flow, ServerTicks};
+use flow::Flow;
+use flow::ServerTicks;
 
 // The flow that leads among those looked at so far, and its tag; nothing where `waits` is false.
 pub struct Lead {

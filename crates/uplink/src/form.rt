@@ -8,7 +8,8 @@ ghost use Rattle.cost.specs.Cost.{costs};
 ghost use Rattle.uplink.specs.Form.{formed, restSpare};
 ghost use Rattle.uplink.specs.Tested.{flowTested, flowsTested};
 use crate::Record;
-use flow::{Flow, ServerTicks};
+use flow::Flow;
+use flow::ServerTicks;
 
 // The clock is below this: document 01's 2^62 + 1,081,080,000.
 const CLOCK_END: u64 = 4611686019508467904;

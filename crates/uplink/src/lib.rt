@@ -3,13 +3,16 @@
 // The waiting packets are in two lent memories of 4,096 places, one of lengths (bytes) and one of handles; flow f owns places 64 f to 64 f + 63.
 ghost use mathlib.Core.Path.{_≡_};
 ghost use Rattle.uplink.specs.Record.{blank};
-mod choice;
+
 mod arrival;
+mod choice;
 mod form;
 mod opening;
 mod pick;
 
-use flow::{Flow, LinkTicks, ServerTicks};
+use flow::Flow;
+use flow::LinkTicks;
+use flow::ServerTicks;
 
 // What the scheduler knows between two calls. The caller carries it, with both memories, unaltered from call to call.
 pub struct Record {

@@ -92,7 +92,8 @@ fn clear_handles(handles: &mut [u32])
 // Refusals 3 to 6, and the opened record with both memories cleared.
 fn open(shares: &[u32], largest: &[u32], lengths: &mut [u16], handles: &mut [u32]) -> Opened
     requires { ⌜ (length (now lengths) ≡ 4096) × (length (now handles) ≡ 4096) ⌝ }
-    ensures { λ r. ⌜ outcome (openingReply (r .reply)) (r .next) (now (lengths .exit)) (now (handles .exit)) ≡ pairRule (now (shares .entry)) (now (largest .entry)) (now (lengths .entry)) (now (handles .entry)) ⌝ }
+    ensures { λ r. ⌜ outcome (openingReply (r .reply)) (r .next) (now (lengths .exit)) (now (handles .exit))
+        ≡ pairRule (now (shares .entry)) (now (largest .entry)) (now (lengths .entry)) (now (handles .entry)) ⌝ }
 {
     let blank = Record::blank();
     let count = shares.len();
@@ -127,7 +128,8 @@ impl Record {
         lengths: &mut [u16],
         handles: &mut [u32],
     ) -> Opened
-        ensures exact { λ r. ⌜ outcome (openingReply (r .reply)) (r .next) (now (lengths .exit)) (now (handles .exit)) ≡ openingRule (now (shares .entry)) (now (largest .entry)) (now (lengths .entry)) (now (handles .entry)) ⌝ }
+        ensures exact { λ r. ⌜ outcome (openingReply (r .reply)) (r .next) (now (lengths .exit)) (now (handles .exit))
+            ≡ openingRule (now (shares .entry)) (now (largest .entry)) (now (lengths .entry)) (now (handles .entry)) ⌝ }
     {
         if lengths.len() != 4096 {
             return Opened {

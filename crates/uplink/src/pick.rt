@@ -4,17 +4,28 @@ ghost use Rattle.uplink.specs.Reply.{pickReply};
 ghost use Rattle.uplink.specs.State.{state, outcome};
 ghost use Rattle.uplink.specs.Ready.{Ready, Servable};
 ghost use Rattle.uplink.specs.Pick.{serveRule, restedRecord, chooseRule, pickRule};
-use crate::{PickReply, Picked, Record, Refusal};
-use flow::{LinkTicks, ServerTicks};
+use crate::PickReply;
+use crate::Picked;
+use crate::Record;
+use crate::Refusal;
+use flow::LinkTicks;
+use flow::ServerTicks;
 
 // A pick is refused from this clock on: 2^62.
 const CLOCK_LIMIT: u64 = 4611686018427387904;
 
 impl Record {
     // Steps 3 to 5: the clock leaps or not, the front packet of `flow` goes, and the next one comes to the front.
-    fn serve(self, table: &[u32; 1000], flow: u32, lengths: &mut [u16], handles: &mut [u32]) -> Picked
+    fn serve(
+        self,
+        table: &[u32; 1000],
+        flow: u32,
+        lengths: &mut [u16],
+        handles: &mut [u32],
+    ) -> Picked
         requires { ⌜ Servable self flow (now table) (now lengths) (now handles) ⌝ }
-        ensures { λ r. ⌜ outcome (pickReply (r .reply)) (r .next) (now (lengths .exit)) (now (handles .exit)) ≡ serveRule (state self (now (lengths .entry)) (now (handles .entry))) flow ⌝ }
+        ensures { λ r. ⌜ outcome (pickReply (r .reply)) (r .next) (now (lengths .exit)) (now (handles .exit))
+            ≡ serveRule (state self (now (lengths .entry)) (now (handles .entry))) flow ⌝ }
     {
         let f = flow as usize;
         let w = self.flow[f];
@@ -69,7 +80,8 @@ impl Record {
     // Step 2, Idle and refusal 10.
     fn chosen(self, table: &[u32; 1000], lengths: &mut [u16], handles: &mut [u32]) -> Picked
         requires { ⌜ Ready self (now table) (now lengths) (now handles) ⌝ }
-        ensures { λ r. ⌜ outcome (pickReply (r .reply)) (r .next) (now (lengths .exit)) (now (handles .exit)) ≡ chooseRule (state self (now (lengths .entry)) (now (handles .entry))) ⌝ }
+        ensures { λ r. ⌜ outcome (pickReply (r .reply)) (r .next) (now (lengths .exit)) (now (handles .exit))
+            ≡ chooseRule (state self (now (lengths .entry)) (now (handles .entry))) ⌝ }
     {
         let lead = self.choose();
         if !lead.waits {
@@ -90,7 +102,8 @@ impl Record {
 
     // The next packet to send.
     pub fn pick(self, lengths: &mut [u16], handles: &mut [u32]) -> Picked
-        ensures exact { λ r. ⌜ outcome (pickReply (r .reply)) (r .next) (now (lengths .exit)) (now (handles .exit)) ≡ pickRule (state self (now (lengths .entry)) (now (handles .entry))) ⌝ }
+        ensures exact { λ r. ⌜ outcome (pickReply (r .reply)) (r .next) (now (lengths .exit)) (now (handles .exit))
+            ≡ pickRule (state self (now (lengths .entry)) (now (handles .entry))) ⌝ }
     {
         if lengths.len() != 4096 {
             return Picked {

@@ -62,14 +62,15 @@ loop-again : tie.Need-loop-again Inv-loop μ-loop
 loop-again c =
     let looked = c .before .before .before in
     let turn = looked .before .before .before .before in
-    let known = turn .loop .inv in
-    (omega arith,
-    allBelow-turn _ _ _ _ (known .1) (c .flow-ok .ensures),
-    shares-turn _ _ _ (known .2),
-    width-turn _ _ _ _ _ _ (known .3)
-    (priced _ _ _ (turn .before .before .before .pre .2) (looked .before .cost-in .ensures))
-    (looked .charge-ticks .ensures .0) (c .before .larger-of .ensures),
-    omega arith)
+    let known = turn .loop .inv in (
+      omega arith,
+      allBelow-turn _ _ _ _ (known .1) (c .flow-ok .ensures),
+      shares-turn _ _ _ (known .2),
+      width-turn _ _ _ _ _ _ (known .3)
+          (priced _ _ _ (turn .before .before .before .pre .2) (looked .before .cost-in .ensures))
+          (looked .charge-ticks .ensures .0) (c .before .larger-of .ensures),
+      omega arith,
+    )
 
 cast-result : tie.Need-cast-result Inv-loop μ-loop
 cast-result c = search needs

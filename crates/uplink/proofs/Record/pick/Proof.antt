@@ -25,7 +25,7 @@ returns-3 : tie.Need-returns-3
 returns-3 c = search (needs, checked-unformed)
 
 chosen-requires : tie.Need-chosen-requires
-chosen-requires c κs = 
+chosen-requires c κs =
     let passed = c .before .before .before in
     let priced = passed .before .before .before .before in
     ready _ _ _ _ _ (priced .table .ensures) (priced .before .before .if1 .left) (priced .before .if2 .left)

@@ -43,9 +43,11 @@ loop-less c = search needs
 loop-again : tie.Need-loop-again Inv-loop μ-loop
 loop-again c =
     let turn = c .before .before .before in
-    let known = turn .loop .inv in
-    (omega arith, omega arith,
-    allBelow-turn _ _ _ _ (known .2) (rest-here (turn .before .args .t1) _ _ (known .0) (c .is-spare .ensures)))
+    let known = turn .loop .inv in (
+      omega arith,
+      omega arith,
+      allBelow-turn _ _ _ _ (known .2) (rest-here (turn .before .args .t1) _ _ (known .0) (c .is-spare .ensures)),
+    )
 
 returns : tie.Need-returns Inv-loop μ-loop
 returns c = rest-tested _ _ _ (omega arith) (c .before .loop .inv .2)
