@@ -1,4 +1,5 @@
--- What "well formed" asks of one flow: document 01, "The record", the bullets on ranges, on waiting lengths and on tags.
+-- What "well formed" asks of one flow: document 01, "The record", the bullets on ranges, on waiting lengths and on
+-- tags.
 -- `src/form.rt` cites it, and so does the form of the record.
 -- Assumes nothing.
 use mathlib.Core.Bool.{Bool, true, false, cond, _&&_}

@@ -1,4 +1,5 @@
--- `Steps`: places, charges, the leap, the tag, and the flow after an arrival and after a pick. `Form`: what the form asks of one flow.
+-- `Steps`: places, charges, the leap, the tag, and the flow after an arrival and after a pick. `Form`: what the form
+-- asks of one flow.
 -- `Laws`: what callers draw from both.
 pub mod Steps
 pub mod Form

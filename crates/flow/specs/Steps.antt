@@ -1,4 +1,5 @@
--- The steps that arrivals and picks are made of: document 01, "Shares, cost and the two clocks", "The record" and "The three calls".
+-- The steps that arrivals and picks are made of: document 01, "Shares, cost and the two clocks", "The record" and
+-- "The three calls".
 -- `src/steps.rt` cites it, and the rules of the calls are put together from it.
 -- Assumes nothing.
 use mathlib.Core.Bool.{Bool, true, false, cond}
@@ -58,7 +59,8 @@ unfoldable pub joinedFlow : Flow → ServerTicks → ℕ → ℕ → Flow
 joinedFlow w clock cost n =
     queued w (cond (eqb (w .waiting) 0) (frontTag (w .tag .0) (clock .0) cost n) (w .tag .0)) (w .first) (w .waiting + 1)
 
--- Pick, steps 4 and 5: "first goes on by one, 63 to 0"; "If the flow still waits, its tag becomes .. Otherwise its tag stays T."
+-- Pick, steps 4 and 5: "first goes on by one, 63 to 0"; "If the flow still waits, its tag becomes .. Otherwise its
+-- tag stays T."
 unfoldable pub servedFlow : Flow → ServerTicks → ℕ → ℕ → Flow
 servedFlow w clock cost next =
     queued w (cond (ltb 1 (w .waiting)) (frontTag (w .tag .0) (clock .0) cost next) (w .tag .0)) ((w .first + 1) % 64) (w .waiting - 1)

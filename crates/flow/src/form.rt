@@ -1,4 +1,5 @@
-// What document 01's form asks of one flow. No step overflows on any record, and the queue is read whole: the loop never leaves early.
+// What document 01's form asks of one flow. No step overflows on any record, and the queue is read whole: the loop
+// never leaves early.
 ghost use mathlib.Core.Path.{_≡_};
 ghost use Prim.Native.Nat.{_+_, _*_, _≤_, _<_};
 ghost use lib.ListN.{length, getD};
@@ -55,7 +56,8 @@ pub fn lengths_ok(stretch: &[u16], largest: u16) -> bool
     ok
 }
 
-// Every waiting length is from 1 to the flow's largest. `from` is the flow's first place of 64, and the queue is one stretch or two.
+// Every waiting length is from 1 to the flow's largest. `from` is the flow's first place of 64, and the queue is one
+// stretch or two.
 pub fn queue_ok(flow: Flow, number: u32, lengths: &[u16]) -> bool
     requires { ⌜ 64 * number + 64 ≤ length (now lengths) ⌝ }
     requires { ⌜ (flow .first < 64) × (flow .waiting ≤ 64) ⌝ }

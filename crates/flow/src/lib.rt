@@ -1,6 +1,9 @@
-// One flow of the uplink: its share, its queue's place in the lent memory and its one tag; and the steps of Leap Forward Virtual Clock on it.
-// Sources: document 01; source 000 (report WUCS-96-10), section 3, for the leap and equation 3; source 003 for one tag a flow.
-// Units: lengths in bytes, costs in ticks a byte, shares in thousandths of the link. Link time and server time are two types.
+// One flow of the uplink: its share, its queue's place in the lent memory and its one tag; and the steps of Leap
+// Forward Virtual Clock on it.
+// Sources: document 01; source 000 (report WUCS-96-10), section 3, for the leap and equation 3; source 003 for one
+// tag a flow.
+// Units: lengths in bytes, costs in ticks a byte, shares in thousandths of the link. Link time and server time are
+// two types.
 mod form;
 mod steps;
 
@@ -25,7 +28,8 @@ pub struct LinkTicks(pub u64);
 // Server ticks: link ticks and the leaps. Source 000's server clock; tags are counted in it.
 pub struct ServerTicks(pub u64);
 
-// Below 64 places, the flow's packets wait in a ring from `first` on. All fields are 0 where the flow is not in the table.
+// Below 64 places, the flow's packets wait in a ring from `first` on. All fields are 0 where the flow is not in the
+// table.
 pub struct Flow {
     // The tag of the front packet; of a flow with nothing waiting, that of its last packet picked, or 0.
     pub tag: ServerTicks,

@@ -1,4 +1,5 @@
-// The steps that arrivals and picks are made of: document 01, "The three calls". Each is one definition of specs/Steps.antt.
+// The steps that arrivals and picks are made of: document 01, "The three calls". Each is one definition of
+// specs/Steps.antt.
 ghost use mathlib.Core.Path.{_≡_};
 ghost use Prim.Native.Nat.{_+_, _*_, _^_, _≤_, _<_, max};
 ghost use Rattle.flow.specs.Steps.{placeOf, chargeTicks, linkTicks, leapRule, frontTag, ticks, joinedFlow, servedFlow};
@@ -40,7 +41,8 @@ pub struct Leapt {
     pub clock: ServerTicks,
 }
 
-// Step 3 of a pick: a tag of more than clock + 2Δ moves the clock on by Δ, once. Said as a distance, it never overflows.
+// Step 3 of a pick: a tag of more than clock + 2Δ moves the clock on by Δ, once. Said as a distance, it never
+// overflows.
 pub fn leap(clock: ServerTicks, width: u32, tag: ServerTicks) -> Leapt
     ensures { λ r. ⌜ r ≡ leapRule clock width tag ⌝ }
 {
@@ -82,7 +84,8 @@ pub fn joined(flow: Flow, clock: ServerTicks, length: u16, cost: u32) -> Flow
     next
 }
 
-// The flow without its front packet, at the clock after step 4; `behind` is the length of the packet behind it, where one waits.
+// The flow without its front packet, at the clock after step 4; `behind` is the length of the packet behind it,
+// where one waits.
 pub fn served(flow: Flow, clock: ServerTicks, behind: u16, cost: u32) -> Flow
     requires { ⌜ (flow .tag .0 < 2 ^ 63) × (clock .0 < 2 ^ 63) × (0 < flow .waiting) × (flow .first < 64) ⌝ }
     ensures { λ r. ⌜ r ≡ servedFlow flow clock cost behind ⌝ }

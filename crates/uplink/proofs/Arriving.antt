@@ -17,7 +17,8 @@ use Rattle.uplink.proofs.Testing.{priced}
 
 module _ (r : Record) (lengths handles : List ℕ) (f n handle : ℕ) where
   -- refusals 7, 8 and 9, and past them
-  pub join-no-flow : r .flows ≤ f → outcome (refused 7 0) r lengths handles ≡ joinRule (state r lengths handles) f n handle
+  pub join-no-flow : r .flows ≤ f
+      → outcome (refused 7 0) r lengths handles ≡ joinRule (state r lengths handles) f n handle
   unfolding joinRule
   join-no-flow h = rw (le-ltb f (r .flows) h)
 
@@ -44,7 +45,8 @@ module _ (r : Record) (lengths handles : List ℕ) (f n handle : ℕ) where
       rw (lt-ltb f (r .flows) h, le-leb 1 n l, le-leb n (flowAt r f .largest) u, lt-ltb (flowAt r f .waiting) 64 w) q
 
   -- the packet is taken
-  pub stored : (table : List ℕ) (at cost : ℕ) (joined : Flow) → table ≡ costs → at ≡ lastPlace (state r lengths handles) f
+  pub stored : (table : List ℕ) (at cost : ℕ) (joined : Flow) → table ≡ costs
+      → at ≡ lastPlace (state r lengths handles) f
       → cost ≡ costIn table (flowAt r f .share) → joined ≡ joinedFlow (flowAt r f) (r .clock) cost n
       → outcome (done [])
       (record { flows = r .flows; width = r .width; clock = r .clock; link = r .link; flow = set (r .flow) f joined })

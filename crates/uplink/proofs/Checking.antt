@@ -12,7 +12,8 @@ use Rattle.uplink.specs.State.{Outcome, state, outcome}
 use Rattle.uplink.specs.Form.{formed, checked}
 
 module _ (r : Record) (lengths handles : List ℕ) (on : Outcome) where
-  pub checked-lengths : (length lengths ≡ 4096 → ⊥) → outcome (refused 1 0) r lengths handles ≡ checked (state r lengths handles) on
+  pub checked-lengths : (length lengths ≡ 4096 → ⊥)
+      → outcome (refused 1 0) r lengths handles ≡ checked (state r lengths handles) on
   unfolding checked
   checked-lengths l = rw (ne-eqb (length lengths) 4096 l)
 
@@ -21,7 +22,8 @@ module _ (r : Record) (lengths handles : List ℕ) (on : Outcome) where
   unfolding checked
   checked-handles l h = rw (eq-eqb (length lengths) 4096 l, ne-eqb (length handles) 4096 h)
 
-  pub checked-unformed : (b : Bool) → length lengths ≡ 4096 → length handles ≡ 4096 → b ≡ formed r lengths → not b ≡ true
+  pub checked-unformed : (b : Bool) → length lengths ≡ 4096 → length handles ≡ 4096 → b ≡ formed r lengths
+      → not b ≡ true
       → outcome (refused 2 0) r lengths handles ≡ checked (state r lengths handles) on
   unfolding checked
   checked-unformed b l h e t =

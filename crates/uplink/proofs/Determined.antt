@@ -1,5 +1,7 @@
--- The three calls are determined: of the same arguments, any two outcomes that a call's contract allows have the same reply, the
--- same record and the same numbers in every place of both memories. Each is said on the contract itself, so it cannot drift from it.
+-- The three calls are determined: of the same arguments, any two outcomes that a call's contract allows have the
+-- same reply, the
+-- same record and the same numbers in every place of both memories. Each is said on the contract itself, so it
+-- cannot drift from it.
 -- Assumes nothing.
 use mathlib.Core.Path.{_≡_, sym, ap, ap₂, _∙_}
 use mathlib.Core.List.{List}

@@ -1,5 +1,6 @@
 -- `Testing`: what each way through the form test finds. `Choosing`: what a turn of the search finds.
--- `Checking`: the checks that every call on a record begins with. `Readying`: what the checks of a call leave for the step behind them.
+-- `Checking`: the checks that every call on a record begins with. `Readying`: what the checks of a call leave for
+-- the step behind them.
 -- `Opens`, `Arriving`, `Picking`: what each way through an opening, an arrival and a pick gives.
 -- `Determined`: any two outcomes that a call allows are equal.
 pub mod Testing

@@ -98,7 +98,8 @@ unfolding flowsTested
 tested-parts r lengths e =
     three-true (allBelow (λ f. flowTested (r .clock .0) (r .width) f lengths (flowAt r f)) (r .flows)) _ _ e
 
-tested-out : (r : Record) (lengths : List ℕ) → flowsTested r lengths ≡ true → (f : ℕ) → f < r .flows → FlowFormed r lengths f
+tested-out : (r : Record) (lengths : List ℕ) → flowsTested r lengths ≡ true → (f : ℕ) → f < r .flows
+    → FlowFormed r lengths f
 unfolding flowTested
 tested-out r lengths e f h =
     let parts =

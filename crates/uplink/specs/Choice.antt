@@ -1,4 +1,5 @@
--- Which flow is picked: document 01, Pick, step 2. What is smallest, and which of equals is taken, are two things: theorems over several calls use the first alone.
+-- Which flow is picked: document 01, Pick, step 2. What is smallest, and which of equals is taken, are two things:
+-- theorems over several calls use the first alone.
 -- Assumes nothing.
 use mathlib.Core.Path.{_≡_}
 use mathlib.Core.Bool.{Bool, true, false, cond}
@@ -10,11 +11,13 @@ use Rattle.flow.specs.Steps.{noFlow}
 use Rattle.flow.specs.declared.Flow.{Flow}
 use Rattle.uplink.specs.declared.choice.Lead.{Lead}
 
--- "the waiting flow with the smallest tag", of the first n flows: flow f waits, and no flow that waits has a smaller tag
+-- "the waiting flow with the smallest tag", of the first n flows: flow f waits, and no flow that waits has a smaller
+-- tag
 pub record Smallest (flows : List Flow) (n f : ℕ) : Type 0 where
   pub counts : f < n
   pub waits : 0 < getD flows f noFlow .waiting
-  pub least : (g : ℕ) → g < n → 0 < getD flows g noFlow .waiting → getD flows f noFlow .tag .0 ≤ getD flows g noFlow .tag .0
+  pub least : (g : ℕ) → g < n → 0 < getD flows g noFlow .waiting
+      → getD flows f noFlow .tag .0 ≤ getD flows g noFlow .tag .0
 
 -- no flow leads yet
 abbrev pub noLead : Lead

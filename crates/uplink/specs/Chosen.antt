@@ -1,4 +1,5 @@
--- What the leader among the flows is: a waiting flow of smallest tag, of equal tags the lowest number; and where nobody leads nobody waits.
+-- What the leader among the flows is: a waiting flow of smallest tag, of equal tags the lowest number; and where
+-- nobody leads nobody waits.
 -- Assumes nothing.
 use mathlib.Core.Path.{_≡_, refl, sym, ap, _∙_}
 use mathlib.Core.Bool.{Bool, true, false, cond}
@@ -22,7 +23,8 @@ pub record Leads (flows : List Flow) (n : ℕ) (lead : Lead) : Type 0 where
   pub smallest : lead .waits ≡ true → Smallest flows n (lead .flow)
   pub own : lead .waits ≡ true → getD flows (lead .flow) noFlow .tag .0 ≡ lead .tag .0
   -- a waiting flow of lower number has a larger tag
-  pub lowest : lead .waits ≡ true → (g : ℕ) → g < lead .flow → 0 < getD flows g noFlow .waiting → lead .tag .0 < getD flows g noFlow .tag .0
+  pub lowest : lead .waits ≡ true → (g : ℕ) → g < lead .flow → 0 < getD flows g noFlow .waiting
+      → lead .tag .0 < getD flows g noFlow .tag .0
   -- with no leader nothing waits
   pub nobody : lead .waits ≡ false → (g : ℕ) → g < n → getD flows g noFlow .waiting ≡ 0
 
@@ -73,7 +75,8 @@ module _ (flows : List Flow) (n : ℕ) (lead : Lead) (L : Leads flows n lead) wh
       ]
 
   -- every waiting flow below n has a larger tag than flow n
-  move-below : (lead .waits ≡ true → tagAt flows n < lead .tag .0) → (g : ℕ) → g < n → 0 < waitsAt flows g → tagAt flows n < tagAt flows g
+  move-below : (lead .waits ≡ true → tagAt flows n < lead .tag .0) → (g : ℕ) → g < n → 0 < waitsAt flows g
+      → tagAt flows n < tagAt flows g
   move-below h g l v = go (lead .waits) refl
     where
       go : (b : Bool) → lead .waits ≡ b → tagAt flows n < tagAt flows g
@@ -81,7 +84,8 @@ module _ (flows : List Flow) (n : ℕ) (lead : Lead) (L : Leads flows n lead) wh
       go false e = absurd (omega (arith, L .nobody e g l))
 
   -- flow n leads where it waits and nobody led, or its tag is smaller
-  leads-move : 0 < waitsAt flows n → (lead .waits ≡ true → tagAt flows n < lead .tag .0) → Leads flows (suc n) (record { waits = true; flow = n; tag = getD flows n noFlow .tag })
+  leads-move : 0 < waitsAt flows n → (lead .waits ≡ true → tagAt flows n < lead .tag .0)
+      → Leads flows (suc n) (record { waits = true; flow = n; tag = getD flows n noFlow .tag })
   leads-move w h =
       record {
         smallest = λ _.
@@ -104,7 +108,8 @@ module _ (flows : List Flow) (n : ℕ) (lead : Lead) (L : Leads flows n lead) wh
       here : Lead
       here = record { waits = true; flow = n; tag = getD flows n noFlow .tag }
 
-      go : (a : Bool) → eqb (waitsAt flows n) 0 ≡ a → (b : Bool) → lead .waits ≡ b → (c : Bool) → leb (lead .tag .0) (tagAt flows n) ≡ c
+      go : (a : Bool) → eqb (waitsAt flows n) 0 ≡ a → (b : Bool) → lead .waits ≡ b → (c : Bool)
+          → leb (lead .tag .0) (tagAt flows n) ≡ c
           → Leads flows (suc n) (cond a lead (cond b (cond c lead here) here))
       go true p b q c t = leads-stay λ w. absurd (omega (arith, eqb-true (waitsAt flows n) 0 p))
       go false p true q true t = leads-stay λ w. (q, leb-true (lead .tag .0) (tagAt flows n) t)

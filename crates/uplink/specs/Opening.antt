@@ -1,4 +1,5 @@
--- The rule of an opening: document 01, "The three calls" and the order of refusals 1, 3, then flow by flow 4 and 5, then 6.
+-- The rule of an opening: document 01, "The three calls" and the order of refusals 1, 3, then flow by flow 4 and 5,
+-- then 6.
 -- Assumes nothing.
 use mathlib.Core.Bool.{Bool, true, false, cond, _&&_}
 use mathlib.Core.List.{List, []}

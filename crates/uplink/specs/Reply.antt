@@ -1,4 +1,5 @@
--- The paper's number and values for each answer: document 01, "Refusal numbers", "Pick" and "The script program". The contracts use these.
+-- The paper's number and values for each answer: document 01, "Refusal numbers", "Pick" and "The script program".
+-- The contracts use these.
 -- Assumes nothing.
 use mathlib.Core.Bool.{Bool, cond}
 use mathlib.Core.List.{List, [], _∷_}

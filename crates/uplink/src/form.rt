@@ -1,4 +1,5 @@
-// The form test: whether any record and memory handed in are well formed. It runs in every arrival and pick, reads each flow once and never overflows.
+// The form test: whether any record and memory handed in are well formed. It runs in every arrival and pick, reads
+// each flow once and never overflows.
 ghost use mathlib.Core.Path.{_≡_};
 ghost use mathlib.Core.Bool.{_&&_};
 ghost use Prim.Native.Nat.{_+_, _*_, _≤_, _<_};

@@ -1,6 +1,9 @@
-// The uplink scheduler: which waiting packet a radio link sends next, by Leap Forward Virtual Clock. Sources: document 01; source 000, section 3.
-// Three calls, `Record::opening`, `arrival` and `pick`, take any input at all and end with a reply or one of ten numbered refusals.
-// The waiting packets are in two lent memories of 4,096 places, one of lengths (bytes) and one of handles; flow f owns places 64 f to 64 f + 63.
+// The uplink scheduler: which waiting packet a radio link sends next, by Leap Forward Virtual Clock. Sources:
+// document 01; source 000, section 3.
+// Three calls, `Record::opening`, `arrival` and `pick`, take any input at all and end with a reply or one of ten
+// numbered refusals.
+// The waiting packets are in two lent memories of 4,096 places, one of lengths (bytes) and one of handles; flow f
+// owns places 64 f to 64 f + 63.
 ghost use mathlib.Core.Path.{_≡_};
 ghost use Rattle.uplink.specs.Record.{blank};
 
@@ -18,7 +21,8 @@ use flow::ServerTicks;
 pub struct Record {
     // The number of flows, 1 to 64; flows beyond it are all zeros.
     pub flows: u32,
-    // The leap width Δ, in server ticks: the largest value, over the flows, of largest packet times cost; at most 1,080,000,000.
+    // The leap width Δ, in server ticks: the largest value, over the flows, of largest packet times cost; at
+    // most 1,080,000,000.
     pub width: u32,
     // The server clock, below 2^62 + 1,081,080,000.
     pub clock: ServerTicks,
@@ -64,7 +68,8 @@ pub enum ArrivalReply {
 pub enum PickReply {
     // Nothing waits.
     Idle,
-    // The packet to send: its flow, length in bytes, handle and tag, whether the clock leapt, and the clock after the pick.
+    // The packet to send: its flow, length in bytes, handle and tag, whether the clock leapt, and the clock
+    // after the pick.
     Packet {
         flow: u32,
         length: u16,

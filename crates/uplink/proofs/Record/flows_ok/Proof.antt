@@ -1,4 +1,5 @@
--- `uplink::Record::flows_ok` meets its contract. The loop's invariant: what is asked of all flows, the sum of the shares and
+-- `uplink::Record::flows_ok` meets its contract. The loop's invariant: what is asked of all flows, the sum of the
+-- shares and
 -- the largest charge, each among the first f flows. The measure is what is left of the flows. Assumes nothing.
 use mathlib.Core.Path.{_≡_, refl, sym, ap, _∙_}
 use Prim.Native.Nat.{_≤_, _-_, _*_}

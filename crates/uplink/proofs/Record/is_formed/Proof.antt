@@ -1,4 +1,5 @@
--- `uplink::Record::is_formed` meets its contract: each early answer contradicts a sentence of the form, and past them all the
+-- `uplink::Record::is_formed` meets its contract: each early answer contradicts a sentence of the form, and past
+-- them all the
 -- flows beyond decide. Assumes nothing.
 use borrow.Author.Needs.{needs}
 use Rattle.uplink.proofs.Testing.{no-flows, many-flows, link-ahead, clock-ended, flows-bad, as-the-rest}

@@ -1,4 +1,5 @@
--- `uplink::Record::rest_ok` meets its contract. The loop starts at the number of flows, below which nothing is asked; its
+-- `uplink::Record::rest_ok` meets its contract. The loop starts at the number of flows, below which nothing is
+-- asked; its
 -- invariant says that all is well below f. The measure is what is left of 64. Assumes nothing.
 use mathlib.Core.Path.{_≡_, refl, sym, ap, _∙_}
 use mathlib.Core.Bool.{_||_}

@@ -1,4 +1,5 @@
--- `uplink::Record::rested` meets its contract. The loop's invariant: the tags of the first f flows are 0, and all else stays.
+-- `uplink::Record::rested` meets its contract. The loop's invariant: the tags of the first f flows are 0, and all
+-- else stays.
 -- The measure is what is left of 64. Assumes nothing.
 use mathlib.Core.Path.{_≡_, refl, sym, ap, _∙_}
 use Prim.Native.Nat.{_≤_, _-_}
