@@ -6,8 +6,8 @@ use mathlib.Core.List.{List, [], _∷_, _++_}
 use Prim.Native.Nat.{ℕ}
 use lib.ListN.{replicate}
 use Rattle.uplink.specs.State.{State}
-use Rattle.uplink.specs.Calls.{Call, opening, arrival, pick}
-use Rattle.rows.specs.Script.{run, start}
+use Rattle.uplink.specs.Calls.{Call, opening, arrival, pick, start}
+use Rattle.rows.specs.Script.{run}
 
 -- a list of two
 abbrev pub pair : ℕ → ℕ → List ℕ

@@ -11,8 +11,8 @@ use Rattle.uplink.specs.declared.Record.{Record}
 use Rattle.uplink.specs.Record.{flowAt}
 use Rattle.uplink.specs.Reply.{Reply, idle, done, refused, packet}
 use Rattle.uplink.specs.State.{State}
-use Rattle.uplink.specs.Calls.{Call, opening, arrival}
-use Rattle.rows.specs.Script.{run, replies, start}
+use Rattle.uplink.specs.Calls.{Call, opening, arrival, start}
+use Rattle.rows.specs.Script.{run, replies}
 use Rattle.rows.specs.Examples.{pair, opened, oneEach, fourAlone, picks}
 
 -- what a row claims of the record that its calls leave

@@ -1,15 +1,9 @@
 -- Lists of calls, each made on the record and the memories that the one before it left, to be computed.
 -- Assumes nothing.
 use mathlib.Core.List.{List, [], _∷_}
-use lib.ListN.{replicate}
-use Rattle.uplink.specs.Record.{blank}
 use Rattle.uplink.specs.Reply.{Reply}
-use Rattle.uplink.specs.State.{State, state}
+use Rattle.uplink.specs.State.{State}
 use Rattle.uplink.specs.Calls.{Call, afterCall, everyRule}
-
--- "Before an opening the record is blank."
-abbrev pub start : State
-start = state blank (replicate 4096 0) (replicate 4096 0)
 
 -- the record and the memories after a list of calls
 unfoldable pub run : State → List Call → State

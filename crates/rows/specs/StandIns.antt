@@ -14,8 +14,7 @@ use Rattle.uplink.specs.State.{State, Outcome, outcome}
 use Rattle.uplink.specs.Opening.{openingRule}
 use Rattle.uplink.specs.Arrival.{arrivalRule}
 use Rattle.uplink.specs.Pick.{leapt, linkAfter, serveRule, idleRule, pickRule}
-use Rattle.uplink.specs.Calls.{everyRule}
-use Rattle.rows.specs.Script.{start}
+use Rattle.uplink.specs.Calls.{everyRule, start}
 use Rattle.rows.specs.Examples.{pair, bothWait, flow1Waits, beforeLeap, flow1Leads}
 use Rattle.rows.specs.Parts.{apart, pickWith, serveWith}
 

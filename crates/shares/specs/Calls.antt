@@ -1,49 +1,109 @@
--- One call on a steady state: what it may give, and what each of these keeps.
+-- One call on a steady state: the four ways it may go (`Ways`), and what holds whichever it goes.
 -- Assumes nothing.
 use mathlib.Core.Path.{_≡_, refl, sym, ap, _∙_}
 use mathlib.Core.Bool.{Bool, true, false, cond}
-use mathlib.Core.List.{List, [], _∷_}
 use Prim.Native.Nat.{ℕ, _+_, _*_, _≤_, _<_}
 use native.Mathlib.Omega.{arith}
-use lib.Dec.{ltb, eqb}
-use borrow.Author.Tests.{ltb-true, eq-eqb}
+use lib.Dec.{ltb}
+use borrow.Author.Tests.{ltb-true, ltb-false, eq-eqb}
 use Rattle.below.specs.Truth.{both-of}
 use Rattle.cost.specs.Cost.{within, within-bounds}
-use Rattle.flow.specs.Steps.{chargeOf, linkTicks, leaps, leapClock}
-use Rattle.uplink.specs.Record.{flowAt, flowCost, counts}
-use Rattle.uplink.specs.Reply.{Reply, idle, done, refused}
+use Rattle.flow.specs.Steps.{leaps, leapClock}
+use Rattle.uplink.specs.Record.{flowCost, counts}
+use Rattle.uplink.specs.Reply.{idle, refused}
 use Rattle.uplink.specs.State.{State, Outcome, demand, kept, lent}
-use Rattle.uplink.specs.Form.{formed}
+use Rattle.uplink.specs.Form.{checked}
 use Rattle.uplink.specs.Formed.{formed-in}
-use Rattle.uplink.specs.Choice.{Smallest, leadOf}
+use Rattle.uplink.specs.Choice.{Smallest}
 use Rattle.uplink.specs.Chosen.{leads}
-use Rattle.uplink.specs.Arrival.{storeRule, joinRule, arrivalRule}
-use Rattle.uplink.specs.Pick.{clockLimit, serveRule, idleRule, pickRule, chooseRule}
-use Rattle.shares.specs.Bridge.{Steady, tableOf, viewOf}
+use Rattle.uplink.specs.Arrival.{storeRule, joinRule}
+use Rattle.uplink.specs.Pick.{clockLimit, serveRule, idleRule}
+use Rattle.uplink.specs.Calls.{Call, opening, arrival, pick}
 use Rattle.shares.specs.Start.{MovesOn}
-use Rattle.shares.specs.Store.{store-steady, store-table, store-start}
+use Rattle.shares.specs.Bridge.{flowOf, clockOf, tableOf, viewOf, Steady}
+use Rattle.shares.specs.Store.{Joins, store-steady, store-table, store-start}
 use Rattle.shares.specs.Serve.{serve-in-time, serve-steady, serve-table, serve-clock-on, serve-moves}
-use Rattle.shares.specs.Replies.{idle-done, idle-refused, Late}
+use Rattle.shares.specs.Idle.{Nobody, idle-steady, idle-table}
+use Rattle.shares.specs.Runs.{somethingWaits, takeRule, Taken, Gives, Plain, chargeIn, chargeFor, valueIn}
+use Rattle.shares.specs.Runs.{refusalIn}
+use Rattle.shares.specs.Replies.{Late, refused-done, idle-done, idle-refused}
 use Rattle.shares.specs.Opened.{opening-late}
-use Rattle.shares.specs.Idle.{idle-steady, idle-table}
-use Rattle.shares.specs.Runs.{Call, opening, arrival, pick, takeRule, somethingWaits, Taken, Gives, Plain, chargeIn, chargeFor, valueIn}
+
+-- a call is refused: with no 1 or 2, and a pick with 10 alone, where something waits and the clock is at its limit
+pub record Refuses (s : State) (call : Call) (number : ℕ) : Type 0 where
+  pub late : 3 ≤ number
+  pub ten : call ≡ pick → (number ≡ 10) × (somethingWaits s ≡ true) × (clockLimit ≤ clockOf s)
+
+-- what P asks of each way that a call may go: refused, stored, Idle or served
+pub record Ways (s : State) (call : Call) (P : Outcome → Type 0) : Type 0 where
+  pub refuses : (number : ℕ) → Refuses s call number → P (kept number s)
+  pub stores : (f n handle : ℕ) → Joins s f n → P (storeRule s f n handle)
+  pub rests : call ≡ pick → Nobody s → P (idleRule s)
+  pub serves : call ≡ pick → (f : ℕ) → Smallest (s .held .flow) (s .held .flows) f → clockOf s < clockLimit
+      → P (serveRule s f)
+
+-- an arrival is no pick
+arrival-pick : {A : Type 0} {f n handle : ℕ} → arrival f n handle ≡ pick → A
+arrival-pick e = let z : _≡_ {A = ℕ} 0 1 = cc in absurd (omega arith)
 
 -- a test that the call goes on with, or is refused by
 demanded : (P : Outcome → Type 0) (test : Bool) (number : ℕ) (s : State) (on : Outcome)
-    → P (kept number s) → (test ≡ true → P on) → P (demand test number s on)
+    → (test ≡ false → P (kept number s)) → (test ≡ true → P on) → P (demand test number s on)
 demanded P true number s on stop go = go refl
-demanded P false number s on stop go = stop
+demanded P false number s on stop go = stop refl
 
--- what a reply has to do with flow f of this cost: the clock goes on by what was picked, and the flow's start by what was picked of it
+module _ (s : State) (S : Steady s) where
+  -- neither 1 nor 2 is met
+  lent-true : lent (s .lengths) (s .handles) ≡ true
+  lent-true = both-of _ _ (eq-eqb _ 4096 (S .lengths-lent)) (eq-eqb _ 4096 (S .handles-lent))
+
+  -- so the call goes on
+  checked-on : {o : Outcome} → checked s o ≡ o
+  unfolding checked
+  checked-on = rw (lent-true, formed-in (s .held) (s .lengths) (S .form))
+
+  -- an arrival is refused with 7, 8 or 9, or stored
+  join-ways : (P : Outcome → Type 0) (f n handle : ℕ) → ((number : ℕ) → 3 ≤ number → P (kept number s))
+      → (Joins s f n → P (storeRule s f n handle)) → P (joinRule s f n handle)
+  unfolding joinRule
+  join-ways P f n handle stop stores =
+      demanded P (counts (s .held) f) 7 s _ (λ _. stop 7 (omega arith)) λ a.
+      demanded P (within 1 (flowOf s f .largest) n) 8 s _ (λ _. stop 8 (omega arith)) λ b.
+      demanded P (ltb (flowOf s f .waiting) 64) 9 s _ (λ _. stop 9 (omega arith)) λ c.
+      let bounds = within-bounds 1 (flowOf s f .largest) n b in
+      stores (record { counts = ltb-true f _ a; some = bounds .0; short = bounds .1; room = ltb-true _ 64 c })
+
+  -- a pick is Idle, refused with 10, or serves a flow of smallest tag
+  pick-ways : (P : Outcome → Type 0) (o : Outcome) → Taken s o → Ways s pick P → P o
+  unfolding takeRule
+  pick-ways P o t ways = rw (t .taken, checked-on) (go (somethingWaits s) refl)
+    where
+      go : (b : Bool) → somethingWaits s ≡ b
+          → P (cond b (demand (ltb (clockOf s) clockLimit) 10 s (serveRule s (t .flow))) (idleRule s))
+      go false e = ways .rests refl (leads (s .held .flow) (s .held .flows) .nobody e)
+      go true e = demanded P (ltb (clockOf s) clockLimit) 10 s _
+          (λ c. ways .refuses 10 (record { late = omega arith; ten = λ _. (refl, e, ltb-false _ clockLimit c) }))
+          λ c. ways .serves refl (t .flow) (t .smallest e) (ltb-true _ clockLimit c)
+
+  -- what holds whichever way it goes holds of a call that is no opening
+  call-ways : (call : Call) (o : Outcome) → Plain call → Gives s call o → (P : Outcome → Type 0) → Ways s call P → P o
+  call-ways (opening shares largest) o plain gives P ways = absurd plain
+  call-ways (arrival f n handle) o plain gives P ways = rw (gives, checked-on) (join-ways P f n handle
+      (λ number late. ways .refuses number (record { late = late; ten = λ e. arrival-pick e }))
+      (ways .stores f n handle))
+  call-ways pick o plain gives P ways = pick-ways P o gives ways
+
+-- what a reply has to do with flow f of this cost:
+-- the clock goes on by what was picked, and the flow's start by what was picked of it
 pub record Counts (f cost : ℕ) (s : State) (o : Outcome) : Type 0 where
-  pub ahead : o .state .held .clock .0 ≤ viewOf (o .state) .tag f
-  pub clock : s .held .clock .0 + 720 * chargeIn (o .reply) ≤ o .state .held .clock .0
+  pub ahead : clockOf (o .state) ≤ viewOf (o .state) .tag f
+  pub clock : clockOf s + 720 * chargeIn (o .reply) ≤ clockOf (o .state)
   pub start : MovesOn f cost (chargeFor f (o .reply)) (viewOf s) (viewOf (o .state))
 
--- what a reply has to do with the clocks
+-- what a reply has to do with the clocks: both go on by what was picked, and the server clock by Δ where it leapt
 pub record Clocks (s : State) (o : Outcome) : Type 0 where
   pub link : o .state .held .link .0 ≡ s .held .link .0 + 720 * chargeIn (o .reply)
-  pub clock : o .state .held .clock .0 ≡ s .held .clock .0 + 720 * chargeIn (o .reply) + s .held .width * valueIn 4 (o .reply)
+  pub clock : clockOf (o .state) ≡ clockOf s + 720 * chargeIn (o .reply) + s .held .width * valueIn 4 (o .reply)
   pub width : o .state .held .width ≡ s .held .width
 
 -- a leap adds Δ once
@@ -55,102 +115,105 @@ leap-clock clock width T ticks = go (leaps clock width T)
     go true = omega arith
     go false = omega arith
 
-module _ (s : State) (S : Steady s) where
-  -- neither 1 nor 2 is met
-  lent-true : lent (s .lengths) (s .handles) ≡ true
-  lent-true = both-of _ _ (eq-eqb _ 4096 (S .lengths-lent)) (eq-eqb _ 4096 (S .handles-lent))
-
-  formed-true : formed (s .held) (s .lengths) ≡ true
-  formed-true = formed-in (s .held) (s .lengths) (S .form)
-
-  module _ (P : Outcome → Type 0) (stop : (number : ℕ) → 3 ≤ number → P (kept number s)) where
-    -- an arrival is refused with a later number, or taken
-    arrival-cases : (f n handle : ℕ)
-        → (f < s .held .flows → 1 ≤ n → n ≤ flowAt (s .held) f .largest → flowAt (s .held) f .waiting < 64 → P (storeRule s f n handle))
-        → P (arrivalRule s f n handle)
-    unfolding arrivalRule joinRule
-    arrival-cases f n handle stored = rw (lent-true, formed-true)
-        (demanded P (counts (s .held) f) 7 s _ (stop 7 (omega arith)) λ a.
-        demanded P (within 1 (flowAt (s .held) f .largest) n) 8 s _ (stop 8 (omega arith)) λ b.
-        demanded P (ltb (flowAt (s .held) f .waiting) 64) 9 s _ (stop 9 (omega arith)) λ c.
-        let fits = within-bounds 1 (flowAt (s .held) f .largest) n b in
-        stored (ltb-true f (s .held .flows) a) (fits .0) (fits .1) (ltb-true _ 64 c))
-
-    -- a pick is Idle, refused with 10, or serves a flow of smallest tag
-    pick-cases : (o : Outcome) → Taken s o
-        → (((f : ℕ) → f < s .held .flows → flowAt (s .held) f .waiting ≡ 0) → P (idleRule s))
-        → ((f : ℕ) → Smallest (s .held .flow) (s .held .flows) f → s .held .clock .0 < clockLimit → P (serveRule s f))
-        → P o
-    unfolding takeRule
-    pick-cases o t rests serves = rw (t .taken, lent-true, formed-true) (go (somethingWaits s) refl)
-      where
-        go : (b : Bool) → somethingWaits s ≡ b
-          → P (cond b (demand (ltb (s .held .clock .0) clockLimit) 10 s (serveRule s (t .flow))) (idleRule s))
-        go true e = demanded P (ltb (s .held .clock .0) clockLimit) 10 s _ (stop 10 (omega arith)) λ c.
-          serves (t .flow) (t .smallest e) (ltb-true _ clockLimit c)
-        go false e = rests (leads (s .held .flow) (s .held .flows) .nobody e)
-
-    -- a call that is no opening
-    call-cases : (call : Call) (o : Outcome) → Plain call → Gives s call o
-        → ((f n handle : ℕ) → f < s .held .flows → 1 ≤ n → n ≤ flowAt (s .held) f .largest → flowAt (s .held) f .waiting < 64
-          → P (storeRule s f n handle))
-        → (call ≡ pick → ((f : ℕ) → f < s .held .flows → flowAt (s .held) f .waiting ≡ 0) → P (idleRule s))
-        → (call ≡ pick → (f : ℕ) → Smallest (s .held .flow) (s .held .flows) f → s .held .clock .0 < clockLimit → P (serveRule s f))
-        → P o
-    call-cases (opening shares largest) o plain g stored rests serves = absurd plain
-    call-cases (arrival f n handle) o plain g stored rests serves = rw g (arrival-cases f n handle (stored f n handle))
-    call-cases pick o plain g stored rests serves = pick-cases o g (rests refl) (serves refl)
-
 module _ (s : State) (S : Steady s) (call : Call) (o : Outcome) (plain : Plain call) (gives : Gives s call o) where
   -- no call but an opening loses what is steady, or the table
-  pub call-keeps : Steady (o .state) × (tableOf (o .state .held) ≡ tableOf (s .held))
+  pub call-keeps : Steady (o .state) × (tableOf (o .state) ≡ tableOf s)
   unfolding storeRule serveRule idleRule
-  call-keeps = call-cases s S (λ o. Steady (o .state) × (tableOf (o .state .held) ≡ tableOf (s .held))) (λ number _. (S, refl))
-      call o plain gives
-      (λ f n handle l some short room. (store-steady s f n handle S l some short room, store-table s f n handle S l some short room))
-      (λ _ nobody. (idle-steady s S nobody, idle-table s))
-      λ _ f small below. (serve-steady s f S small below, serve-table s f S small)
+  call-keeps = call-ways s S call o plain gives (λ o. Steady (o .state) × (tableOf (o .state) ≡ tableOf s))
+      record {
+        refuses = λ number _. (S, refl);
+        stores = λ f n handle joins. (store-steady s f n handle S joins, store-table s f n handle S joins);
+        rests = λ _ nobody. (idle-steady s S nobody, idle-table s S);
+        serves = λ _ f small below. (serve-steady s f S small below, serve-table s f S small);
+      }
 
   -- what the reply says of flow f, where it is not behind the clock and waits at a pick
-  pub call-counts : (f : ℕ) → f < s .held .flows → s .held .clock .0 ≤ viewOf s .tag f → (call ≡ pick → 0 < flowAt (s .held) f .waiting)
-      → Counts f (flowCost (flowAt (s .held) f)) s o
+  pub call-counts : (f : ℕ) → f < s .held .flows → clockOf s ≤ viewOf s .tag f
+      → (call ≡ pick → 0 < flowOf s f .waiting) → Counts f (flowCost (flowOf s f)) s o
   unfolding storeRule serveRule idleRule
-  call-counts f l ahead waits = call-cases s S (Counts f (flowCost (flowAt (s .held) f)) s) (λ number _. omega arith) call o plain gives
-      (λ g n handle b some short room. let moved = store-start s g n handle S b some short room f ahead in
-      record { ahead = moved .0; clock = omega arith; start = moved .1 })
-      (λ p nobody. absurd (omega (arith, waits p, nobody f l)))
-      λ p g small _. let moved = serve-moves s g S small f l (waits p) in
-      record { ahead = moved .0; clock = serve-clock-on s g S small; start = moved .1 }
+  call-counts f l ahead waits = call-ways s S call o plain gives (Counts f (flowCost (flowOf s f)) s)
+      record {
+        refuses = λ number _. omega arith;
+        stores = λ g n handle joins. let stays = store-start s g n handle S joins f ahead in
+            record { ahead = stays .0; clock = omega arith; start = stays .1 };
+        rests = λ e nobody. absurd (omega (arith, waits e, nobody f l));
+        serves = λ e g small _. let moves = serve-moves s g S small f l (waits e) in
+            record { ahead = moves .0; clock = serve-clock-on s g S small; start = moves .1 };
+      }
 
   -- only a pick's reply says that something was picked
   pub call-silent : (call ≡ pick → ⊥) → (f : ℕ) → (chargeIn (o .reply) ≡ 0) × (chargeFor f (o .reply) ≡ 0)
   unfolding storeRule
-  call-silent other f = call-cases s S (λ o. (chargeIn (o .reply) ≡ 0) × (chargeFor f (o .reply) ≡ 0)) (λ number _. (refl, refl))
-      call o plain gives (λ g n handle b some short room. (refl, refl)) (λ p _. absurd (other p)) λ p _ _ _. absurd (other p)
+  call-silent other f =
+      call-ways s S call o plain gives (λ o. (chargeIn (o .reply) ≡ 0) × (chargeFor f (o .reply) ≡ 0))
+      record {
+        refuses = λ number _. (refl, refl);
+        stores = λ g n handle joins. (refl, refl);
+        rests = λ e _. absurd (other e);
+        serves = λ e _ _ _. absurd (other e);
+      }
 
   -- no call but an opening is refused with 1 or 2
-  pub call-formed : Late (o .reply)
+  call-late : Late (o .reply)
   unfolding storeRule serveRule idleRule
-  call-formed = call-cases s S (λ o. Late (o .reply)) (λ number late. omega arith)
-      call o plain gives (λ f n handle b some short room. omega arith) (λ _ _. omega arith) λ _ f small _. omega arith
+  call-late = call-ways s S call o plain gives (λ o. Late (o .reply))
+      record {
+        refuses = λ number why. omega (arith, why .late);
+        stores = λ f n handle joins. omega arith;
+        rests = λ _ nobody. omega arith;
+        serves = λ _ f small below. omega arith;
+      }
+
+  -- a pick is refused with 10 alone, where something waits and the clock is at its limit
+  pub call-refused : call ≡ pick → (number flow : ℕ) → o .reply ≡ refused number flow
+      → (number ≡ 10) × (somethingWaits s ≡ true) × (clockLimit ≤ clockOf s)
+  unfolding storeRule serveRule idleRule
+  call-refused p number flow = call-ways s S call o plain gives
+      (λ o. o .reply ≡ refused number flow → (number ≡ 10) × (somethingWaits s ≡ true) × (clockLimit ≤ clockOf s))
+      record {
+        refuses = λ m why e. let ten = why .ten p in (sym (ap refusalIn e) ∙ ten .0, ten .1, ten .2);
+        stores = λ f n handle joins e. refused-done (sym e);
+        rests = λ _ nobody e. idle-refused e;
+        serves = λ _ f small below e. refused-done (sym e);
+      }
 
   -- no picked packet leaves the clock above its tag
   pub call-in-time : valueIn 5 (o .reply) ≤ valueIn 3 (o .reply)
   unfolding storeRule serveRule idleRule
-  call-in-time = call-cases s S (λ o. valueIn 5 (o .reply) ≤ valueIn 3 (o .reply)) (λ number _. omega arith)
-      call o plain gives (λ f n handle b some short room. omega arith) (λ _ _. omega arith) λ _ f small _. serve-in-time s f S small
+  call-in-time = call-ways s S call o plain gives (λ o. valueIn 5 (o .reply) ≤ valueIn 3 (o .reply))
+      record {
+        refuses = λ number _. omega arith;
+        stores = λ f n handle joins. omega arith;
+        rests = λ _ nobody. omega arith;
+        serves = λ _ f small _. serve-in-time s f S small;
+      }
 
-  -- the clocks: both go on by what was picked, and the server clock by Δ where it leapt; only Idle takes them back
+  -- the clocks go on where the reply is not Idle
   pub call-clocks : (o .reply ≡ idle → ⊥) → Clocks s o
   unfolding storeRule serveRule idleRule
-  call-clocks = call-cases s S (λ o. (o .reply ≡ idle → ⊥) → Clocks s o) (λ number _ _. omega arith) call o plain gives
-      (λ f n handle b some short room _. omega arith)
-      (λ _ _ never. absurd (never refl))
-      λ _ f small _ _. record { link = refl; clock = leap-clock (s .held .clock .0) (s .held .width) (flowAt (s .held) f .tag .0) _; width = refl }
+  call-clocks = call-ways s S call o plain gives (λ o. (o .reply ≡ idle → ⊥) → Clocks s o)
+      record {
+        refuses = λ number _ _. omega arith;
+        stores = λ f n handle joins _. omega arith;
+        rests = λ _ nobody never. absurd (never refl);
+        serves = λ _ f small below _. let T = flowOf s f .tag .0 in
+            record { link = refl; clock = leap-clock (clockOf s) (s .held .width) T _; width = refl };
+      }
 
-  -- Idle sets both to 0
-  pub call-idle : o .reply ≡ idle → (o .state .held .clock .0 ≡ 0) × (o .state .held .link .0 ≡ 0)
+  -- and Idle sets both to 0
+  pub call-idle : o .reply ≡ idle → (clockOf (o .state) ≡ 0) × (o .state .held .link .0 ≡ 0)
   unfolding storeRule serveRule idleRule
-  call-idle = call-cases s S (λ o. o .reply ≡ idle → (o .state .held .clock .0 ≡ 0) × (o .state .held .link .0 ≡ 0))
-      (λ number _ e. idle-refused (sym e)) call o plain gives
-      (λ f n handle b some short room e. idle-done (sym e)) (λ _ _ _. (refl, refl)) λ _ f small _ e. idle-done (sym e)
+  call-idle = call-ways s S call o plain gives
+      (λ o. o .reply ≡ idle → (clockOf (o .state) ≡ 0) × (o .state .held .link .0 ≡ 0))
+      record {
+        refuses = λ number _ e. idle-refused (sym e);
+        stores = λ f n handle joins e. idle-done (sym e);
+        rests = λ _ nobody _. (refl, refl);
+        serves = λ _ f small below e. idle-done (sym e);
+      }
+
+-- no call on a steady state is refused with 1 or 2
+pub any-late : (s : State) → Steady s → (call : Call) (o : Outcome) → Gives s call o → Late (o .reply)
+any-late s S (opening shares largest) o gives = rw gives (opening-late s shares largest (lent-true s S))
+any-late s S (arrival f n handle) o gives = call-late s S (arrival f n handle) o tt gives
+any-late s S pick o gives = call-late s S pick o tt gives

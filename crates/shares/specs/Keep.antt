@@ -1,14 +1,14 @@
 -- The backlog and the tag bounds, over a table of shares and costs, and that front, leap, serve and reset keep them.
 -- Assumes nothing.
-use mathlib.Core.Path.{_≡_, refl, sym, ap, fun-ext}
+use mathlib.Core.Path.{_≡_, refl, fun-ext}
 use mathlib.Core.Logic.{_≢_}
-use Prim.Native.Nat.{ℕ, zero, suc, _+_, _-_, _*_, max, _≤_, _<_}
+use Prim.Native.Nat.{ℕ, _+_, _-_, _*_, max, _≤_, _<_}
 use native.Mathlib.Nat.{le-refl, le-trans, mul-le-mul-left, mul-le-mul-right}
 use native.Mathlib.Decide.{ℕ-discrete, decLe}
 use native.Mathlib.Omega.{arith}
 use Rattle.below.specs.Below.{sumBelow}
 use Rattle.shares.specs.Sum.{sum-le, sum-less, sum-times, sum-one}
-use Rattle.shares.specs.Own.{due, own, due-from, own-idle, own-served, own-clock, own-low, own-front, own-far}
+use Rattle.shares.specs.Own.{own, due-from, own-served, own-clock, own-low, own-front, own-far}
 
 -- what an opening fixes: the number of flows, the leap width, and the share and cost of each flow
 pub record Table : Type 0 where
@@ -35,6 +35,7 @@ backlogBy X c F t = sumBelow (λ j. own c t (X .share j) (F .tag j) (F .charge j
 abbrev pub room : Table → ℕ → ℕ
 room X time = sumBelow (X .share) (X .size) * time
 
+-- what is kept, with clock c and view F
 pub record Good (X : Table) (c : ℕ) (F : View) : Type 0 where
   -- no more is promised by any time than the link has room for
   pub backlog : (t : ℕ) → backlogBy X c F t ≤ room X (t - c)
@@ -53,9 +54,10 @@ pub record Change (i T n : ℕ) (F G : View) : Type 0 where
 -- what holds at the changed flow, and held at every other, holds after the change
 pub changed : {i T n : ℕ} {F G : View} → Change i T n F G → (P : ℕ → ℕ → ℕ → Type 0) → P i T n
     → ((j : ℕ) → P j (F .tag j) (F .charge j)) → (j : ℕ) → P j (G .tag j) (G .charge j)
-changed {i} {G = G} h P here else j = elim (ℕ-discrete j i) as (λ _. P j (G .tag j) (G .charge j))
-  [ yes q ↦ rw (q, h .tag-at, h .charge-at) here
-  | no q ↦ rw (h .tag-else j q, h .charge-else j q) (else j) ]
+changed {i} {G = G} h P here else j = elim (ℕ-discrete j i) as (λ _. P j (G .tag j) (G .charge j)) [
+  | yes q ↦ rw (q, h .tag-at, h .charge-at) here
+  | no q ↦ rw (h .tag-else j q, h .charge-else j q) (else j)
+]
 
 -- a change to what was there is none
 pub unchanged : {i : ℕ} {F G : View} → Change i (F .tag i) (F .charge i) F G → G ≡ F
@@ -67,12 +69,11 @@ unchanged {F = F} {G = G} h =
 -- two changes of one flow are the later one
 pub change-again : {i T n U m : ℕ} {F M G : View} → Change i T n F M → Change i U m F G → Change i U m M G
 change-again h k =
-    record
-    {
+    record {
       tag-at = k .tag-at;
       charge-at = k .charge-at;
       tag-else = λ j q. rw (h .tag-else j q) (k .tag-else j q);
-      charge-else = λ j q. rw (h .charge-else j q) (k .charge-else j q)
+      charge-else = λ j q. rw (h .charge-else j q) (k .charge-else j q);
     }
 
 -- where each flow has no more than its room, so have all
@@ -85,27 +86,26 @@ backlog-low X c d F t each = rw (← (sum-times (X .share) (X .size) (t - d))) (
 pub front-good : {X : Table} → Sound X → (c i n : ℕ) {F G : View} → i < X .size → Good X c F → F .charge i ≡ 0
     → n * X .cost i ≤ X .width → Change i (max (F .tag i) c + n * X .cost i) n F G → Good X c G
 front-good {X} sound c i n {F} {G} l g idle fits h =
-    record
-    {
+    record {
       backlog = λ t. le-trans (sum-le (X .size) (changed h
-        (λ j T m. j < X .size → own c t (X .share j) T m ≤ own c t (X .share j) (F .tag j) (F .charge j))
-        (λ _. rw idle (own-front c t (X .share i) (F .tag i) n (X .cost i) (sound .covers i l)))
-        (λ j _. le-refl _))) (g .backlog t);
+          (λ j T m. j < X .size → own c t (X .share j) T m ≤ own c t (X .share j) (F .tag j) (F .charge j))
+          (λ _. rw idle (own-front c t (X .share i) (F .tag i) n (X .cost i) (sound .covers i l)))
+          (λ j _. le-refl _))) (g .backlog t);
       near = changed h (λ j T m. j < X .size → T ≤ c + 2 * X .width + m * X .cost j)
-        (λ _. omega (arith, rw idle at (g .near i l))) (g .near);
-      fits = changed h (λ j T m. j < X .size → m * X .cost j ≤ X .width) (λ _. fits) (g .fits)
+          (λ _. omega (arith, rw idle at (g .near i l))) (g .near);
+      fits = changed h (λ j T m. j < X .size → m * X .cost j ≤ X .width) (λ _. fits) (g .fits);
     }
 
 -- leap: every tag that waits is above c + 2Δ
 pub leap-good : {X : Table} → Sound X → (c : ℕ) {F : View} → Good X c F
     → ((j : ℕ) → j < X .size → 0 < F .charge j → c + 2 * X .width < F .tag j) → Good X (c + X .width) F
 leap-good {X} sound c {F} g far =
-    record
-    {
+    record {
       backlog = λ t. backlog-low X (c + X .width) (c + X .width) F t λ j l.
-        own-far c t (X .share j) (F .tag j) (F .charge j) (X .cost j) (X .width) (sound .covers j l) (g .fits j l) (far j l);
+          own-far c t (X .share j) (F .tag j) (F .charge j) (X .cost j) (X .width)
+          (sound .covers j l) (g .fits j l) (far j l);
       near = λ j l. omega (arith, g .near j l);
-      fits = g .fits
+      fits = g .fits;
     }
 
 -- a packet that waits will have been sent before the clock is at its tag
@@ -113,11 +113,13 @@ pub in-time : {X : Table} → Sound X → (c i : ℕ) {F : View} → Good X c F 
     → c + 720 * F .charge i ≤ F .tag i
 unfolding own
 in-time {X} sound c i {F} g l waits =
-    omega (arith,
-    sum-one (λ j. own c (F .tag i) (X .share j) (F .tag j) (F .charge j)) (X .size) i l,
-    due-from (F .tag i) (F .tag i) (F .charge i) (le-refl _),
-    g .backlog (F .tag i),
-    mul-le-mul-right (F .tag i - c) (sound .total))
+    omega (
+      arith,
+      sum-one (λ j. own c (F .tag i) (X .share j) (F .tag j) (F .charge j)) (X .size) i l,
+      due-from (F .tag i) (F .tag i) (F .charge i) (le-refl _),
+      g .backlog (F .tag i),
+      mul-le-mul-right (F .tag i - c) (sound .total),
+    )
 
 module _ {X : Table} (sound : Sound X) (c i : ℕ) {F G : View} (l : i < X .size) (g : Good X c F)
     (h : Change i (F .tag i) 0 F G) where
@@ -125,20 +127,32 @@ module _ {X : Table} (sound : Sound X) (c i : ℕ) {F G : View} (l : i < X .size
   abbrev after : ℕ
   after = c + 720 * F .charge i
 
-  -- from the served tag on, the backlog falls by as much as the room
-  served-late : (t : ℕ) → F .tag i ≤ t → backlogBy X after G t ≤ room X (t - after)
-  served-late t p =
-      omega (arith,
-      sum-less (X .size) i (720000 * F .charge i) l (rw (h .tag-at, h .charge-at) here) (changed h
+  -- the served flow's part falls by what was due
+  served-part : (t : ℕ) → F .tag i ≤ t
+      → own after t (X .share i) (F .tag i) 0 + 720000 * F .charge i ≤ own c t (X .share i) (F .tag i) (F .charge i)
+  served-part t p = omega (
+    arith,
+    own-served after t (X .share i) (F .tag i) (F .charge i) p,
+    own-clock c t (X .share i) (F .tag i) after (F .charge i) (omega arith),
+  )
+
+  -- and no other part grows
+  served-less : (t : ℕ) → F .tag i ≤ t → backlogBy X after G t + 720000 * F .charge i ≤ backlogBy X c F t
+  served-less t p = sum-less (X .size) i (720000 * F .charge i) l (rw (h .tag-at, h .charge-at) (served-part t p))
+      (changed h
       (λ j T m. j < X .size → own after t (X .share j) T m ≤ own c t (X .share j) (F .tag j) (F .charge j))
-      (λ _. omega (arith, here)) (λ j _. own-clock c t (X .share j) (F .tag j) after (F .charge j) (omega arith))),
-      g .backlog t,
-      mul-le-mul-left {m = t - c} {n = t - after + 720 * F .charge i} (sumBelow (X .share) (X .size)) (omega arith),
-      mul-le-mul-right (720 * F .charge i) (sound .total))
-    where
-      here : own after t (X .share i) (F .tag i) 0 + 720000 * F .charge i ≤ own c t (X .share i) (F .tag i) (F .charge i)
-      here = omega (arith, own-served after t (X .share i) (F .tag i) (F .charge i) p,
-        own-clock c t (X .share i) (F .tag i) after (F .charge i) (omega arith))
+      (λ _. omega (arith, served-part t p))
+      λ j _. own-clock c t (X .share j) (F .tag j) after (F .charge j) (omega arith))
+
+  -- from the served tag on the backlog falls by as much as the room, or more
+  served-late : (t : ℕ) → F .tag i ≤ t → backlogBy X after G t ≤ room X (t - after)
+  served-late t p = omega (
+    arith,
+    served-less t p,
+    g .backlog t,
+    mul-le-mul-left {m = t - c} {n = t - after + 720 * F .charge i} (sumBelow (X .share) (X .size)) (omega arith),
+    mul-le-mul-right (720 * F .charge i) (sound .total),
+  )
 
   -- before the served tag nothing that waits is due
   served-early : (t : ℕ) → t < F .tag i → ((j : ℕ) → j < X .size → 0 < F .charge j → F .tag i ≤ F .tag j)
@@ -152,23 +166,21 @@ module _ {X : Table} (sound : Sound X) (c i : ℕ) {F G : View} (l : i < X .size
   pub serve-good : ((j : ℕ) → j < X .size → 0 < F .charge j → F .tag i ≤ F .tag j) → F .tag i ≤ c + 2 * X .width
       → Good X (c + 720 * F .charge i) G
   serve-good least high =
-      record
-      {
+      record {
         backlog = λ t. elim (decLe (F .tag i) t) as (λ _. backlogBy X after G t ≤ room X (t - after))
-          [ yes p ↦ served-late t p | no p ↦ served-early t (omega arith) least ];
+            [ yes p ↦ served-late t p | no p ↦ served-early t (omega arith) least ];
         near = changed h (λ j T m. j < X .size → T ≤ after + 2 * X .width + m * X .cost j)
-          (λ _. omega arith) (λ j b. omega (arith, g .near j b));
-        fits = changed h (λ j T m. j < X .size → m * X .cost j ≤ X .width) (λ _. omega arith) (g .fits)
+            (λ _. omega arith) (λ j b. omega (arith, g .near j b));
+        fits = changed h (λ j T m. j < X .size → m * X .cost j ≤ X .width) (λ _. omega arith) (g .fits);
       }
 
 -- reset: an opening, or Idle
 pub reset-good : (X : Table) {c : ℕ} {F : View} → ((j : ℕ) → j < X .size → F .tag j ≡ 0)
     → ((j : ℕ) → j < X .size → F .charge j ≡ 0) → Good X c F
 reset-good X {c} {F} tags charges =
-    record
-    {
+    record {
       backlog = λ t. backlog-low X c c F t λ j l.
-        own-low c t (X .share j) (F .tag j) (F .charge j) λ w. absurd (omega (arith, charges j l));
+          own-low c t (X .share j) (F .tag j) (F .charge j) λ w. absurd (omega (arith, charges j l));
       near = λ j l. omega (arith, tags j l);
-      fits = λ j l. rw (charges j l) (omega arith)
+      fits = λ j l. rw (charges j l) (omega arith);
     }

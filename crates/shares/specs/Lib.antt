@@ -1,13 +1,23 @@
+-- Demand 3, the shares. An auditor reads `Runs` (what a run is), `Shares` (what is proved of every run) and `Bites`.
+-- `Rule`: the same for document 01's own pick. `Bites`: worked runs, the 3 that cannot be 2, the stand-in that breaks it.
+-- The argument, from numbers to runs. `Sum`: sums over the flows. `Own`: one flow's part of the backlog.
+-- `Keep`: the backlog and the tag bounds, kept by front, leap, serve and reset. `Start`: where a flow stands in its own
+-- time. `Bridge`: from the record to these. `Put`: one flow put anew. `Store`, `Serve`, `Idle`, `Opened`: an arrival,
+-- a pick, an Idle, an opening. `Replies`: replies told apart. `Calls`: one call. `Stretches`: a stretch of calls.
+pub mod Runs
+pub mod Shares
+pub mod Rule
+pub mod Bites
 pub mod Sum
 pub mod Own
 pub mod Keep
 pub mod Start
 pub mod Bridge
+pub mod Put
 pub mod Store
 pub mod Serve
 pub mod Idle
-pub mod Opened
-pub mod Runs
 pub mod Replies
+pub mod Opened
 pub mod Calls
 pub mod Stretches

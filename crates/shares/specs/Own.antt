@@ -1,7 +1,8 @@
--- One flow's part of the backlog, in numbers alone: q a share, T a tag, n the charge of the front packet (0 where nothing waits), c the clock.
+-- One flow's part of the backlog, in numbers alone: q is a share, T a tag, c the clock,
+-- and n the charge of the front packet, 0 where nothing waits.
 -- Everything about rounding is in `own-room` and the fact `720000 ≤ q * cost` that it is used with.
 -- Assumes nothing.
-use mathlib.Core.Path.{_≡_, refl}
+use mathlib.Core.Path.{_≡_}
 use mathlib.Core.Bool.{cond}
 use Prim.Native.Nat.{ℕ, zero, suc, _+_, _-_, _*_, max, _≤_, _<_}
 use native.Mathlib.Nat.{mul-le-mul-left, mul-le-mul-right, not-suc-le-zero}
@@ -18,6 +19,7 @@ due t T n = cond (leb T t) (720000 * n) 0
 unfoldable pub own : ℕ → ℕ → ℕ → ℕ → ℕ → ℕ
 own c t q T n = q * (t - max T c) + due t T n
 
+-- from its tag on a packet is due, before it is not
 pub due-from : (t T n : ℕ) → T ≤ t → due t T n ≡ 720000 * n
 unfolding due
 due-from t T n h = rw (le-leb T t h)
@@ -28,9 +30,10 @@ due-before t T n h = rw (lt-leb T t h)
 
 -- nothing is due of an idle flow
 pub due-idle : (t T : ℕ) → due t T 0 ≡ 0
-due-idle t T = elim (decLe T t)
-  [ yes p ↦ omega (arith, due-from t T 0 p)
-  | no p ↦ omega (arith, due-before t T 0 (omega arith)) ]
+due-idle t T = elim (decLe T t) [
+  | yes p ↦ omega (arith, due-from t T 0 p)
+  | no p ↦ omega (arith, due-before t T 0 (omega arith))
+]
 
 module _ (c t q T : ℕ) where
   -- the part of an idle flow
@@ -51,16 +54,25 @@ module _ (c t q T : ℕ) where
   -- a packet whose tag is w past a, with w enough for its charge, fits into the room from a on
   pub own-room : (n a w : ℕ) → 720000 * n ≤ q * w → a + w ≤ T → own c t q T n ≤ q * (t - a)
   unfolding own
-  own-room n a w h l = elim (decLe T t)
-    [ yes p ↦ omega (arith, due-from t T n p, mul-le-mul-left {m = t - max T c + w} {n = t - a} q (omega arith))
-    | no p ↦ omega (arith, due-before t T n (omega arith), mul-le-mul-left {m = t - max T c} {n = t - a} q (omega arith)) ]
+  own-room n a w h l = elim (decLe T t) [
+    | yes p ↦ omega (arith, due-from t T n p, mul-le-mul-left {m = t - max T c + w} {n = t - a} q (omega arith))
+    | no p ↦ omega (
+      arith,
+      due-before t T n (omega arith),
+      mul-le-mul-left {m = t - max T c} {n = t - a} q (omega arith),
+    )
+  ]
 
   -- before its tag a flow has no more than its room from the clock on
   pub own-low : (n : ℕ) → (0 < n → t < T) → own c t q T n ≤ q * (t - c)
   unfolding own
   own-low zero h = omega (arith, due-idle t T, mul-le-mul-left {m = t - max T c} {n = t - c} q (omega arith))
   own-low (suc n) h =
-      omega (arith, due-before t T (suc n) (h (omega arith)), mul-le-mul-left {m = t - max T c} {n = t - c} q (omega arith))
+      omega (
+        arith,
+        due-before t T (suc n) (h (omega arith)),
+        mul-le-mul-left {m = t - max T c} {n = t - c} q (omega arith),
+      )
 
 -- what a charge of n is due is covered by its cost
 charge-covered : (q n k : ℕ) → 720000 ≤ q * k → 720000 * n ≤ q * (n * k)
@@ -76,4 +88,5 @@ pub own-far : (c t q T n k w : ℕ) → 720000 ≤ q * k → n * k ≤ w → (0 
     → own (c + w) t q T n ≤ q * (t - (c + w))
 own-far c t q T zero k w covers fits far = own-low (c + w) t q T zero λ l. absurd (not-suc-le-zero l)
 own-far c t q T (suc n) k w covers fits far =
-    own-room (c + w) t q T (suc n) (c + w) (suc n * k) (charge-covered q (suc n) k covers) (omega (arith, far (omega arith)))
+    own-room (c + w) t q T (suc n) (c + w) (suc n * k) (charge-covered q (suc n) k covers)
+    (omega (arith, far (omega arith)))

@@ -1,34 +1,23 @@
--- What a run is, and what is read off it: a call is an opening, an arrival or a pick with any arguments, and record and both memories go on
--- unaltered from one call to the next, refused calls and Idle picks included. A pick may take any flow of smallest tag; document 01's pick is one of these.
+-- What a run is, and what is read off it. A call is an opening, an arrival or a pick with any arguments;
+-- record and both memories go on unaltered from one call to the next, refused calls and Idle picks included.
+-- A pick may take any flow of smallest tag: document 01's pick is one of these (`Rule`).
 -- Assumes nothing.
 use mathlib.Core.Path.{_≡_}
 use mathlib.Core.Bool.{Bool, true, cond}
 use mathlib.Core.List.{List, [], _∷_}
-use Prim.Native.Nat.{ℕ, _+_, _≤_, _<_}
+use Prim.Native.Nat.{ℕ, _+_, _<_}
 use lib.Dec.{eqb, ltb}
 use lib.ListN.{getD}
 use Rattle.flow.specs.Steps.{chargeOf}
 use Rattle.uplink.specs.Record.{flowAt}
 use Rattle.uplink.specs.Reply.{Reply, idle, done, refused}
-use Rattle.uplink.specs.State.{State, Outcome, demand, lent}
-use Rattle.uplink.specs.Form.{formed}
+use Rattle.uplink.specs.State.{State, Outcome, demand}
+use Rattle.uplink.specs.Form.{checked}
 use Rattle.uplink.specs.Choice.{Smallest, leadOf}
 use Rattle.uplink.specs.Opening.{openingRule}
 use Rattle.uplink.specs.Arrival.{arrivalRule}
-use Rattle.uplink.specs.Pick.{clockLimit, serveRule, idleRule, pickRule}
-
-pub data Call : Type 0 where
-  -- shares and largest packets
-  opening : List ℕ → List ℕ → Call
-  -- flow, length and handle
-  arrival : ℕ → ℕ → ℕ → Call
-  pick : Call
-
--- document 01's rule: an opening takes the memories of the state
-abbrev pub step : State → Call → Outcome
-step s (opening shares largest) = openingRule shares largest (s .lengths) (s .handles)
-step s (arrival flow length handle) = arrivalRule s flow length handle
-step s pick = pickRule s
+use Rattle.uplink.specs.Pick.{clockLimit, serveRule, idleRule}
+use Rattle.uplink.specs.Calls.{Call, opening, arrival, pick, afterCall}
 
 -- something waits
 abbrev pub somethingWaits : State → Bool
@@ -37,11 +26,9 @@ somethingWaits s = leadOf (s .held .flow) (s .held .flows) .waits
 -- document 01's pick, but that flow f is taken, whoever leads
 unfoldable pub takeRule : State → ℕ → Outcome
 takeRule s f =
-    demand (lent (s .lengths) (s .handles)) 1 s
-    (demand (formed (s .held) (s .lengths)) 2 s
-    (cond (somethingWaits s) (demand (ltb (s .held .clock .0) clockLimit) 10 s (serveRule s f)) (idleRule s)))
+    checked s (cond (somethingWaits s) (demand (ltb (s .held .clock .0) clockLimit) 10 s (serveRule s f)) (idleRule s))
 
--- a pick that takes any flow of smallest tag
+-- a pick that takes a flow of smallest tag
 pub record Taken (s : State) (o : Outcome) : Type 0 where
   pub flow : ℕ
   pub smallest : somethingWaits s ≡ true → Smallest (s .held .flow) (s .held .flows) flow
@@ -53,16 +40,21 @@ Gives s (opening shares largest) o = o ≡ openingRule shares largest (s .length
 Gives s (arrival flow length handle) o = o ≡ arrivalRule s flow length handle
 Gives s pick o = Taken s o
 
--- a call and what it gave
-pub record Event : Type 0 where
-  pub call : Call
-  pub outcome : Outcome
-
 -- a call that is no opening
 abbrev pub Plain : Call → Type 0
 Plain (opening shares largest) = ⊥
 Plain (arrival flow length handle) = Unit {0}
 Plain pick = Unit {0}
+
+-- a list of such calls
+abbrev pub NoOpening : List Call → Type 0
+NoOpening [] = Unit {0}
+NoOpening (call ∷ calls) = Plain call × NoOpening calls
+
+-- a call and what it gave
+pub record Event : Type 0 where
+  pub call : Call
+  pub outcome : Outcome
 
 -- a stretch of a run, from state s on: no opening is in it
 abbrev pub Stretch : State → List Event → Type 0
@@ -74,25 +66,36 @@ abbrev pub endOf : State → List Event → State
 endOf s [] = s
 endOf s (x ∷ xs) = endOf (x .outcome .state) xs
 
--- the states from an accepted opening on, with no new opening: the opening's own, and that after each stretch
+-- the run of document 01's rule
+abbrev pub runOf : State → List Call → List Event
+runOf s [] = []
+runOf s (call ∷ calls) = record { call = call; outcome = afterCall s call } ∷ runOf (afterCall s call .state) calls
+
+-- an opening in state s, whatever came before: of the state it takes the memories alone
+abbrev pub openingIn : State → List ℕ → List ℕ → Outcome
+openingIn s shares largest = afterCall s (opening shares largest)
+
+-- the states of a run from an accepted opening on, with no new opening
 pub data Carried : State → Type 0 where
-  opened : (shares largest lengths handles : List ℕ) → openingRule shares largest lengths handles .reply ≡ done []
-    → Carried (openingRule shares largest lengths handles .state)
-  next : (s : State) (x : Event) → Carried s → Plain (x .call) → Gives s (x .call) (x .outcome) → Carried (x .outcome .state)
+  opened : (s : State) (shares largest : List ℕ) → openingIn s shares largest .reply ≡ done []
+      → Carried (openingIn s shares largest .state)
+  next : (s : State) (x : Event) → Carried s → Plain (x .call) → Gives s (x .call) (x .outcome)
+      → Carried (x .outcome .state)
 
 -- the states in which the clocks start: after an accepted opening, and after an Idle
 pub data Restarted : State → Type 0 where
-  opened : (shares largest lengths handles : List ℕ) → openingRule shares largest lengths handles .reply ≡ done []
-    → Restarted (openingRule shares largest lengths handles .state)
+  opened : (s : State) (shares largest : List ℕ) → openingIn s shares largest .reply ≡ done []
+      → Restarted (openingIn s shares largest .state)
   idled : (s : State) (o : Outcome) → Carried s → Taken s o → o .reply ≡ idle → Restarted (o .state)
 
--- what a reply says was picked: its charge in all, and its charge where it is of flow f
+-- what a reply says was picked: its charge
 abbrev pub chargeIn : Reply → ℕ
 chargeIn idle = 0
 chargeIn (refused number flow) = 0
 chargeIn (done []) = 0
 chargeIn (done (flow ∷ rest)) = chargeOf (getD rest 0 0)
 
+-- and its charge where it is of flow f
 abbrev pub chargeFor : ℕ → Reply → ℕ
 chargeFor f idle = 0
 chargeFor f (refused number flow) = 0
@@ -116,27 +119,25 @@ abbrev pub total : (Reply → ℕ) → List Event → ℕ
 total figure [] = 0
 total figure (x ∷ xs) = figure (x .outcome .reply) + total figure xs
 
--- W, S and the leaps
+-- W: the bytes picked
 abbrev pub picked : List Event → ℕ
 picked = total chargeIn
 
+-- S: the bytes picked of flow f
 abbrev pub pickedOf : ℕ → List Event → ℕ
 pickedOf f = total (chargeFor f)
 
+-- the number of leaps
 abbrev pub leapsOf : List Event → ℕ
 leapsOf = total (valueIn 4)
 
 -- flow f has a packet waiting at every pick
 abbrev pub WaitsAtPicks : ℕ → State → List Event → Type 0
 WaitsAtPicks f s [] = Unit {0}
-WaitsAtPicks f s (x ∷ xs) = (x .call ≡ pick → 0 < flowAt (s .held) f .waiting) × WaitsAtPicks f (x .outcome .state) xs
+WaitsAtPicks f s (x ∷ xs) =
+    (x .call ≡ pick → 0 < flowAt (s .held) f .waiting) × WaitsAtPicks f (x .outcome .state) xs
 
 -- no reply is Idle
 abbrev pub NeverIdle : List Event → Type 0
 NeverIdle [] = Unit {0}
 NeverIdle (x ∷ xs) = (x .outcome .reply ≡ idle → ⊥) × NeverIdle xs
-
--- the run of document 01's rule
-abbrev pub runOf : State → List Call → List Event
-runOf s [] = []
-runOf s (call ∷ calls) = record { call = call; outcome = step s call } ∷ runOf (step s call .state) calls

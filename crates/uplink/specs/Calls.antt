@@ -2,13 +2,14 @@
 -- Assumes nothing.
 use mathlib.Core.List.{List}
 use Prim.Native.Nat.{ℕ}
+use lib.ListN.{replicate}
 use Rattle.below.specs.Below.{allBelow, sumBelow, mostBelow}
 use Rattle.below.specs.Listed.{listed, mapFirst}
 use Rattle.cost.specs.Cost.{costOf}
 use Rattle.flow.specs.Steps.{joinedFlow, servedFlow}
 use Rattle.flow.specs.Form.{ranged, queueFormed, tagFormed, spareFlow}
-use Rattle.uplink.specs.Record.{sharesOf, widthOf}
-use Rattle.uplink.specs.State.{State, Outcome}
+use Rattle.uplink.specs.Record.{blank, sharesOf, widthOf}
+use Rattle.uplink.specs.State.{State, Outcome, state}
 use Rattle.uplink.specs.Form.{tabled, queuesFormed, tagsFormed, clocksFormed, restSpare, formed, checked}
 use Rattle.uplink.specs.Choice.{ahead, leadOf}
 use Rattle.uplink.specs.Opening.{newFlows, newRecord, faultFrom, tableReply, pairRule, openingRule}
@@ -22,6 +23,10 @@ pub data Call : Type 0 where
   -- flow, length, handle
   arrival : ℕ → ℕ → ℕ → Call
   pick : Call
+
+-- "Before an opening the record is blank": with memories of zeros
+abbrev pub start : State
+start = state blank (replicate 4096 0) (replicate 4096 0)
 
 -- what a call gives: an opening takes the memories and no record
 abbrev pub afterCall : State → Call → Outcome

@@ -1,0 +1,214 @@
+-- The statements bite: worked runs, computed by the rules themselves on memories of 4,096 places.
+-- `fair` meets what demand 3 asks, and W and S are not 0. `tight` shows that the 3 of 3Δ cannot be 2.
+-- `lazy` shows that the stand-in that keeps its books on the first pick, and afterwards only reports, breaks demand 3.
+-- Assumes nothing.
+use mathlib.Core.Path.{_≡_, refl, sym}
+use mathlib.Core.Bool.{Bool, true, false, _&&_}
+use mathlib.Core.List.{List, [], _∷_}
+use Prim.Native.Nat.{ℕ, zero, suc, _+_, _*_, _≤_, _<_}
+use native.Mathlib.Omega.{arith}
+use lib.Dec.{ltb, lit<, lit≤}
+use lib.ListN.{replicate}
+use borrow.Author.Tests.{ltb-true}
+use Rattle.below.specs.Truth.{true-false, both-true}
+use Rattle.uplink.specs.Record.{flowAt, flowCost}
+use Rattle.uplink.specs.State.{State, Outcome}
+use Rattle.uplink.specs.Pick.{pickRule}
+use Rattle.uplink.specs.Calls.{Call, opening, arrival, pick, start, afterCall, everyRule}
+use Rattle.shares.specs.Runs.{takeRule, Taken, valueIn, NoOpening, Event, Stretch, endOf, runOf, openingIn}
+use Rattle.shares.specs.Runs.{Carried, opened, picked, pickedOf, WaitsAtPicks}
+use Rattle.shares.specs.Shares.{share}
+use Rattle.shares.specs.Rule.{rule-carried, rule-share}
+
+-- a worked run: a table, the calls before the stretch, and the stretch
+pub record Worked : Type 0 where
+  pub shares : List ℕ
+  pub largest : List ℕ
+  pub before : List Call
+  pub stretch : List Call
+
+-- the state after the opening
+abbrev pub openedOf : Worked → State
+openedOf w = openingIn start (w .shares) (w .largest) .state
+
+-- the state in which the stretch begins, and the stretch by document 01's rule
+abbrev pub beginOf : Worked → State
+beginOf w = endOf (openedOf w) (runOf (openedOf w) (w .before))
+
+abbrev pub stretchOf : Worked → List Event
+stretchOf w = runOf (beginOf w) (w .stretch)
+
+-- the bound of demand 3 with so many Δ
+abbrev pub boundOf : Worked → List Event → ℕ → ℕ → ℕ
+boundOf w run f most = pickedOf f run * flowCost (flowAt (beginOf w .held) f) + most * beginOf w .held .width
+
+-- what a run of the stretch shows of flow f: it meets what demand 3 asks, and these are W, S, the flow's cost and Δ
+pub record Shows (w : Worked) (run : List Event) (f W S cost width : ℕ) : Type 0 where
+  pub carried : Carried (beginOf w)
+  pub plain : NoOpening (w .stretch)
+  pub counts : f < beginOf w .held .flows
+  pub waits : WaitsAtPicks f (beginOf w) run
+  pub all : picked run ≡ W
+  pub own : pickedOf f run ≡ S
+  pub cost-is : flowCost (flowAt (beginOf w .held) f) ≡ cost
+  pub width-is : beginOf w .held .width ≡ width
+
+-- no call is an opening, as a test to be computed
+abbrev plainAll : List Call → Bool
+plainAll [] = true
+plainAll (opening shares largest ∷ calls) = false
+plainAll (arrival flow length handle ∷ calls) = plainAll calls
+plainAll (pick ∷ calls) = plainAll calls
+
+-- and what it says
+plain-of : (calls : List Call) → plainAll calls ≡ true → NoOpening calls
+plain-of [] e = tt
+plain-of (opening shares largest ∷ calls) e = true-false (sym e)
+plain-of (arrival flow length handle ∷ calls) e = (tt, plain-of calls e)
+plain-of (pick ∷ calls) e = (tt, plain-of calls e)
+
+-- flow f waits at every call, as a test to be computed
+abbrev waitsAll : ℕ → State → List Event → Bool
+waitsAll f s [] = true
+waitsAll f s (x ∷ xs) = ltb 0 (flowAt (s .held) f .waiting) && waitsAll f (x .outcome .state) xs
+
+-- and what it says
+waits-of : (f : ℕ) (s : State) (xs : List Event) → waitsAll f s xs ≡ true → WaitsAtPicks f s xs
+waits-of f s [] e = tt
+waits-of f s (x ∷ xs) e = let both = both-true (ltb 0 (flowAt (s .held) f .waiting)) _ e in
+    (λ _. ltb-true 0 _ (both .0), waits-of f (x .outcome .state) xs (both .1))
+
+-- two flows of 500: flow 0 waits while it is picked once and flow 1 is picked once
+abbrev pub fair : Worked
+fair =
+    record {
+      shares = 500 ∷ 500 ∷ [];
+      largest = 100 ∷ 100 ∷ [];
+      before = arrival 0 100 7 ∷ arrival 0 100 8 ∷ arrival 1 100 9 ∷ [];
+      stretch = replicate 2 pick;
+    }
+
+-- W is 200 and S is 100
+pub fair-shows : Shows fair (stretchOf fair) 0 200 100 1440 144000
+unfolding everyRule
+fair-shows =
+    record {
+      carried = rule-carried (opened start (fair .shares) (fair .largest) refl) (fair .before)
+          (plain-of (fair .before) refl);
+      plain = plain-of (fair .stretch) refl;
+      counts = lit< tt;
+      waits = waits-of 0 (beginOf fair) (stretchOf fair) refl;
+      all = refl;
+      own = refl;
+      cost-is = refl;
+      width-is = refl;
+    }
+
+-- and demand 3 speaks of it
+pub fair-holds : 720 * picked (stretchOf fair) ≤ boundOf fair (stretchOf fair) 0 3
+fair-holds =
+    rule-share (fair-shows .carried) 0 (fair-shows .counts) (fair .stretch) (fair-shows .plain) (fair-shows .waits)
+
+-- both front packets of `fair` have the tag 144,000
+tied-least : (g : ℕ) → g < 2 → flowAt (beginOf fair .held) 1 .tag .0 ≤ flowAt (beginOf fair .held) g .tag .0
+unfolding everyRule
+tied-least zero l = lit≤ tt
+tied-least (suc zero) l = lit≤ tt
+tied-least (suc (suc g)) l = absurd (omega arith)
+
+-- so a pick may take flow 1
+pub tied : Taken (beginOf fair) (takeRule (beginOf fair) 1)
+unfolding everyRule
+tied =
+    record {
+      flow = 1;
+      smallest = λ _. record { counts = lit< tt; waits = lit< tt; least = λ g l _. tied-least g l };
+      taken = refl;
+    }
+
+-- where document 01's takes flow 0
+pub tied-apart : let s = beginOf fair in (valueIn 0 (takeRule s 1 .reply) ≡ 1) × (valueIn 0 (pickRule s .reply) ≡ 0)
+unfolding everyRule takeRule
+tied-apart = (refl, refl)
+
+-- shares 1 and 999: flow 0 has sent two of its four bytes when flow 1 comes with five packets, and waits at five picks
+abbrev pub tight : Worked
+tight =
+    record {
+      shares = 1 ∷ 999 ∷ [];
+      largest = 1 ∷ 998 ∷ [];
+      before = arrival 0 1 1 ∷ arrival 0 1 2 ∷ arrival 0 1 3 ∷ arrival 0 1 4 ∷ pick ∷ pick
+          ∷ arrival 1 998 5 ∷ arrival 1 998 6 ∷ arrival 1 998 7 ∷ arrival 1 998 8 ∷ arrival 1 998 9 ∷ [];
+      stretch = replicate 5 pick;
+    }
+
+-- W is 3,993 and S is 1
+pub tight-shows : Shows tight (stretchOf tight) 0 3993 1 720000 720000
+unfolding everyRule
+tight-shows =
+    record {
+      carried = rule-carried (opened start (tight .shares) (tight .largest) refl) (tight .before)
+          (plain-of (tight .before) refl);
+      plain = plain-of (tight .stretch) refl;
+      counts = lit< tt;
+      waits = waits-of 0 (beginOf tight) (stretchOf tight) refl;
+      all = refl;
+      own = refl;
+      cost-is = refl;
+      width-is = refl;
+    }
+
+-- 2Δ would be too few
+pub two-too-few : boundOf tight (stretchOf tight) 0 2 < 720 * picked (stretchOf tight)
+two-too-few = rw (tight-shows .all, tight-shows .own, tight-shows .cost-is, tight-shows .width-is) (lit< tt)
+
+-- the stand-in: with true it has made a pick, and from then on a pick only reports
+abbrev pub lazyAfter : Bool → State → Call → Outcome
+lazyAfter made s (opening shares largest) = afterCall s (opening shares largest)
+lazyAfter made s (arrival flow length handle) = afterCall s (arrival flow length handle)
+lazyAfter false s pick = pickRule s
+lazyAfter true s pick = record { reply = pickRule s .reply; state = s }
+
+-- whether it has made a pick after this call
+abbrev pub lazyMade : Bool → Call → Bool
+lazyMade made (opening shares largest) = false
+lazyMade made (arrival flow length handle) = made
+lazyMade made pick = true
+
+-- its run of a list of calls
+abbrev pub lazyRun : Bool → State → List Call → List Event
+lazyRun made s [] = []
+lazyRun made s (call ∷ calls) =
+    record { call = call; outcome = lazyAfter made s call }
+    ∷ lazyRun (lazyMade made call) (lazyAfter made s call .state) calls
+
+-- the table and the packets of `fair`, and nine picks: all but the first report the one packet of flow 1
+abbrev pub lazy : Worked
+lazy = record { shares = fair .shares; largest = fair .largest; before = fair .before; stretch = replicate 9 pick }
+
+abbrev pub lazyStretch : List Event
+lazyStretch = lazyRun false (beginOf lazy) (lazy .stretch)
+
+-- flow 0 waits at every pick, W is 900 and S is 100
+pub lazy-shows : Shows lazy lazyStretch 0 900 100 1440 144000
+unfolding everyRule
+lazy-shows =
+    record {
+      carried = fair-shows .carried;
+      plain = plain-of (lazy .stretch) refl;
+      counts = lit< tt;
+      waits = waits-of 0 (beginOf lazy) lazyStretch refl;
+      all = refl;
+      own = refl;
+      cost-is = refl;
+      width-is = refl;
+    }
+
+-- the stand-in breaks demand 3
+pub lazy-breaks : boundOf lazy lazyStretch 0 3 < 720 * picked lazyStretch
+lazy-breaks = rw (lazy-shows .all, lazy-shows .own, lazy-shows .cost-is, lazy-shows .width-is) (lit< tt)
+
+-- so what it gives is no stretch of a run, whatever the tie rule
+pub lazy-no-stretch : Stretch (beginOf lazy) lazyStretch → ⊥
+lazy-no-stretch run =
+    omega (arith, lazy-breaks, share (lazy-shows .carried) 0 (lazy-shows .counts) lazyStretch run (lazy-shows .waits))

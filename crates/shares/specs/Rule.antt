@@ -1,0 +1,66 @@
+-- Document 01's pick takes a flow of smallest tag, so what holds whatever the tie rule holds of it.
+-- Assumes nothing.
+use mathlib.Core.Path.{_≡_, refl}
+use mathlib.Core.List.{List, [], _∷_}
+use Prim.Native.Nat.{ℕ, _+_, _*_, _≤_, _<_}
+use Rattle.uplink.specs.Record.{flowAt, flowCost}
+use Rattle.uplink.specs.Reply.{done, refused}
+use Rattle.uplink.specs.State.{State}
+use Rattle.uplink.specs.Choice.{leadOf}
+use Rattle.uplink.specs.Chosen.{leads}
+use Rattle.uplink.specs.Pick.{pickRule, chooseRule}
+use Rattle.uplink.specs.Calls.{Call, opening, arrival, pick, afterCall}
+use Rattle.shares.specs.Runs.{takeRule, Taken, Gives, NoOpening, Stretch, endOf, runOf, Carried, Restarted}
+use Rattle.shares.specs.Runs.{picked, pickedOf, leapsOf, WaitsAtPicks, NeverIdle}
+use Rattle.shares.specs.Stretches.{carried-on}
+use Rattle.shares.specs.Shares.{form-kept, clock-in-time, share, clocks}
+
+-- document 01's pick is one of those that take a flow of smallest tag
+pub rule-taken : (s : State) → Taken s (pickRule s)
+unfolding chooseRule takeRule
+rule-taken s =
+    record {
+      flow = leadOf (s .held .flow) (s .held .flows) .flow;
+      smallest = leads (s .held .flow) (s .held .flows) .smallest;
+      taken = refl;
+    }
+
+-- and what a call gives by document 01 is one of those that it may give
+pub rule-gives : (s : State) (call : Call) → Gives s call (afterCall s call)
+rule-gives s (opening shares largest) = refl
+rule-gives s (arrival flow length handle) = refl
+rule-gives s pick = rule-taken s
+
+-- calls without an opening make a stretch
+pub rule-stretch : (s : State) (calls : List Call) → NoOpening calls → Stretch s (runOf s calls)
+rule-stretch s [] plain = tt
+rule-stretch s (call ∷ calls) plain =
+    (plain .0, rule-gives s call, rule-stretch (afterCall s call .state) calls (plain .1))
+
+-- and carry a state on
+pub rule-carried : {s : State} → Carried s → (calls : List Call) → NoOpening calls → Carried (endOf s (runOf s calls))
+rule-carried {s} c calls plain = carried-on c (runOf s calls) (rule-stretch s calls plain)
+
+module _ {s : State} (c : Carried s) where
+  -- no carried call is refused with 1 or 2
+  pub rule-form-kept : (call : Call) (flow : ℕ)
+      → (afterCall s call .reply ≡ refused 1 flow → ⊥) × (afterCall s call .reply ≡ refused 2 flow → ⊥)
+  rule-form-kept call = form-kept c call (afterCall s call) (rule-gives s call)
+
+  -- no picked packet leaves the server clock above its tag
+  pub rule-in-time : (flow length handle tag leapt clock : ℕ)
+      → pickRule s .reply ≡ done (flow ∷ length ∷ handle ∷ tag ∷ leapt ∷ clock ∷ []) → clock ≤ tag
+  rule-in-time = clock-in-time c (pickRule s) (rule-taken s)
+
+  -- demand 3, for a list of calls with no opening in it
+  pub rule-share : (f : ℕ) → f < s .held .flows
+      → (calls : List Call) → NoOpening calls → WaitsAtPicks f s (runOf s calls)
+      → 720 * picked (runOf s calls) ≤ pickedOf f (runOf s calls) * flowCost (flowAt (s .held) f) + 3 * s .held .width
+  rule-share f l calls plain = share c f l (runOf s calls) (rule-stretch s calls plain)
+
+-- the clocks
+pub rule-clocks : {s : State} → Restarted s → (calls : List Call) → NoOpening calls → NeverIdle (runOf s calls)
+    → let r = endOf s (runOf s calls) .held in
+    (r .clock .0 ≡ r .link .0 + s .held .width * leapsOf (runOf s calls))
+    × (r .link .0 ≡ 720 * picked (runOf s calls))
+rule-clocks {s} r calls plain = clocks r (runOf s calls) (rule-stretch s calls plain)
