@@ -1,0 +1,72 @@
+/* Noon at the gateway: a camera and sixty loggers share one link, all of them with packets waiting all the time.
+ * Prints what the camera and the loggers got, beside what they booked.
+ *
+ * Build and run, in the repository's folder, once `rt staticlib gateway` has made the library:
+ *   gcc -O2 -Iinclude examples/noon.c target/staticlib/libgateway.a -o target/noon && target/noon
+ */
+#include <inttypes.h>
+#include <stdio.h>
+#include <stdlib.h>
+#include "uplink.h"
+
+enum { FLOWS = 61, CAMERA = 0, DEEP = 8, PICKS = 200000 };
+
+/* What the caller keeps between calls, and where a pick's reply comes. */
+static uint64_t record[UPLINK_RECORD_WORDS], reply[UPLINK_REPLY_WORDS];
+static uint16_t lengths[UPLINK_PLACES];
+static uint32_t handles[UPLINK_PLACES];
+static uint32_t shares[FLOWS], largest[FLOWS];
+
+/* A call that should have been done was refused: nothing was changed, and the number says why. */
+static void must(const char *call, uint64_t answer)
+{
+    if (answer == UPLINK_DONE)
+        return;
+    fprintf(stderr, "%s refused: %" PRIu32 ", flow %" PRIu64 "\n", call, (uint32_t)answer, answer >> 32);
+    exit(1);
+}
+
+static void arrive(uint32_t flow, uint32_t handle)
+{
+    must("arrival", gateway_arrival(flow, largest[flow], handle, record, UPLINK_RECORD_WORDS, lengths, UPLINK_PLACES,
+                                    handles, UPLINK_PLACES));
+}
+
+int main(void)
+{
+    uint64_t bytes[FLOWS] = {0}, all = 0, logged = 0, least = UINT64_MAX, most = 0, leaps = 0;
+
+    for (uint32_t f = 0; f < FLOWS; f++) {
+        shares[f] = f == CAMERA ? 700 : 5;
+        largest[f] = f == CAMERA ? 1500 : 64;
+    }
+    must("opening", gateway_opening(shares, FLOWS, largest, FLOWS, record, UPLINK_RECORD_WORDS, lengths, UPLINK_PLACES,
+                                    handles, UPLINK_PLACES));
+
+    /* The burst: every flow has packets waiting, and each that is sent is followed by another. */
+    for (uint32_t f = 0; f < FLOWS; f++)
+        for (uint32_t k = 0; k < DEEP; k++)
+            arrive(f, k);
+    for (uint32_t i = 0; i < PICKS; i++) {
+        must("pick", gateway_pick(record, UPLINK_RECORD_WORDS, lengths, UPLINK_PLACES, handles, UPLINK_PLACES, reply,
+                                  UPLINK_REPLY_WORDS));
+        bytes[reply[0]] += reply[1];
+        all += reply[1];
+        leaps += reply[4];
+        arrive((uint32_t)reply[0], DEEP + i);
+    }
+
+    for (uint32_t f = 1; f < FLOWS; f++) {
+        logged += bytes[f];
+        least = bytes[f] < least ? bytes[f] : least;
+        most = bytes[f] > most ? bytes[f] : most;
+    }
+    printf("%" PRIu64 " bytes sent, %d picks, %" PRIu64 " leaps\n", all, PICKS, leaps);
+    printf("camera:       %10" PRIu64 " bytes, %5.1f thousandths, booked 700\n", bytes[CAMERA],
+           1000.0 * (double)bytes[CAMERA] / (double)all);
+    printf("60 loggers:   %10" PRIu64 " bytes, %5.1f thousandths, booked 300\n", logged,
+           1000.0 * (double)logged / (double)all);
+    printf("least logger: %10" PRIu64 " bytes\n", least);
+    printf("most logger:  %10" PRIu64 " bytes\n", most);
+    return 0;
+}

@@ -1,0 +1,30 @@
+/* The record and the two memories, and ways to make them: good ones, damaged ones, and noise. */
+#ifndef STATE_H
+#define STATE_H
+
+#include <stdint.h>
+
+#include "../bench/plain.h"
+#include "../include/uplink.h"
+
+struct state {
+    struct plain_record record;
+    uint16_t lengths[UPLINK_PLACES];
+    uint32_t handles[UPLINK_PLACES];
+};
+
+/* The block's layout: word 0 is flows + 2^32 leap width, word 1 the clock, word 2 the link time; for flow f, word
+ * 3 + 2 f is the tag and word 4 + 2 f is share + 2^16 largest + 2^32 first + 2^48 waiting. */
+void to_words(const struct plain_record *record, uint64_t words[UPLINK_RECORD_WORDS]);
+void from_words(struct plain_record *record, const uint64_t words[UPLINK_RECORD_WORDS]);
+
+/* A table of `flows` rows that an opening takes. */
+void make_table(uint32_t *shares, uint32_t *largest, uint32_t flows);
+uint32_t make_flows(void);
+
+void make_built(struct state *state);  /* well formed, with many fields at their limits */
+void make_blank(struct state *state);  /* no flow at all: zeros, but for the clocks */
+void make_noise(struct state *state);  /* any words at all */
+void damage(struct state *state);      /* one field or word is set to, or past, a limit */
+
+#endif
