@@ -3,13 +3,13 @@
 use mathlib.Core.Path.{_≡_, refl, sym, ap, ap₂, _∙_}
 use mathlib.Core.Bool.{Bool, true, false, _&&_}
 use mathlib.Core.List.{List}
-use Prim.Native.Nat.{ℕ, _+_, _-_, _*_, _≤_, _<_}
+use Prim.Native.Nat.{ℕ, _+_, _-_, _*_, _%_, _≤_, _<_}
 use native.Mathlib.Omega.{arith}
 use lib.Dec.{leb}
 use lib.ListN.{length, take, drop, getD, length-drop}
 use lib.Seq.{getD-take, getD-drop, length-take-le}
 use borrow.Author.Tests.{leb-true, le-leb, lt-leb, eq-eqb, ne-eqb}
-use Rattle.below.specs.Below.{allBelow, allBelow-add, allBelow-same}
+use Rattle.below.specs.Below.{allBelow, allBelow-at, allBelow-of, allBelow-add, allBelow-same}
 use Rattle.below.specs.Truth.{same-truth}
 use Rattle.cost.specs.Cost.{within}
 use Rattle.flow.specs.Steps.{placeOf}
@@ -94,3 +94,14 @@ module _ (w : Flow) (f : ℕ) (ls : List ℕ) (room : 64 * f + 64 ≤ length ls)
       (d ∙ stretch (w .largest) ls start (64 * f + 64) i at (omega arith) room (λ k u. omega arith))
       (e ∙ stretch (w .largest) ls (64 * f) (end - 64) n back (omega arith) (omega arith) (λ k u. omega arith))
       ∙ sym (allBelow-add good i n) ∙ ap (allBelow good) (omega arith)
+
+  -- a full queue: all the flow's places, wherever it begins
+  pub full-ring : (r : Bool) → 64 ≤ w .waiting → r ≡ says (w .largest) ls (64 * f) (64 * f + 64) → r ≡ queueFormed f ls w
+  unfolding queueFormed
+  full-ring r h e = let all : ℕ → Bool = λ k. fits (w .largest) ls (64 * f + k) in
+      e ∙ stretch (w .largest) ls (64 * f) (64 * f + 64) 64 (λ k. 64 * f + k) refl room (λ k u. refl)
+      ∙ same-truth (allBelow all 64) (allBelow good 64)
+      (λ t. allBelow-of good 64 λ k u. allBelow-at all 64 t ((w .first + k) % 64) (omega arith))
+      (λ t. allBelow-of all 64 λ j u. ap (fits (w .largest) ls) (omega arith)
+        ∙ allBelow-at good 64 t ((j + 64 - w .first) % 64) (omega arith))
+      ∙ ap (allBelow good) (omega arith)

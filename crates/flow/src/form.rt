@@ -56,9 +56,8 @@ pub fn lengths_ok(stretch: &[u16], largest: u16) -> bool
     ok
 }
 
-// Every waiting length is from 1 to the flow's largest. `from` is the flow's first place of 64, and the queue is one
-// stretch or two.
-pub fn queue_ok(flow: Flow, number: u32, lengths: &[u16]) -> bool
+// Every waiting length is from 1 to the flow's largest: the queue is one stretch of the flow's 64 places, or two.
+fn stretches_ok(flow: Flow, number: u32, lengths: &[u16]) -> bool
     requires { ⌜ 64 * number + 64 ≤ length (now lengths) ⌝ }
     requires { ⌜ (flow .first < 64) × (flow .waiting ≤ 64) ⌝ }
     ensures { λ r. ⌜ r ≡ queueFormed number (now (lengths .entry)) flow ⌝ }
@@ -72,4 +71,18 @@ pub fn queue_ok(flow: Flow, number: u32, lengths: &[u16]) -> bool
     }
     let rest = end - 64;
     lengths_ok(&lengths[start..turn], flow.largest) & lengths_ok(&lengths[from..rest], flow.largest)
+}
+
+// The same. A full queue has all 64 places, wherever it begins: one stretch of a length that is known.
+pub fn queue_ok(flow: Flow, number: u32, lengths: &[u16]) -> bool
+    requires { ⌜ 64 * number + 64 ≤ length (now lengths) ⌝ }
+    requires { ⌜ (flow .first < 64) × (flow .waiting ≤ 64) ⌝ }
+    ensures { λ r. ⌜ r ≡ queueFormed number (now (lengths .entry)) flow ⌝ }
+{
+    if flow.waiting < 64 {
+        return stretches_ok(flow, number, lengths);
+    }
+    let from = 64 * number as usize;
+    let turn = from + 64;
+    lengths_ok(&lengths[from..turn], flow.largest)
 }

@@ -9,7 +9,7 @@ use lib.Dec.{leb, eqb}
 use lib.ListN.{getD}
 use borrow.Author.Tests.{not-true, not-false, lt-ltb, le-ltb, le-leb, eq-eqb, leb-true, eqb-true}
 use Rattle.below.specs.Truth.{true-false, both-true, both-of, three-true, or-either, or-right, same-truth}
-use Rattle.below.specs.Below.{allBelow, allBelow-at, allBelow-of, sumBelow-none, sumBelow-more, mostBelow-none, mostBelow-more}
+use Rattle.below.specs.Below.{allBelow, allBelow-at, allBelow-of, allBelow-turn, sumBelow-none, sumBelow-more, mostBelow-none, mostBelow-more}
 use Rattle.cost.specs.Cost.{costs, costOf, costIn, cost-found}
 use Rattle.flow.specs.Form.{ranged, queueFormed, tagFormed, spareFlow}
 use Rattle.flow.specs.Laws.{ranged-out, Ranged}
@@ -65,13 +65,30 @@ pub width-turn : (flows : List Flow) (n most charge cost next : ℕ) → most �
 unfolding widthOf
 width-turn flows n most charge cost next e p q m = rw (mostBelow-more, ← e, ← p, ← q) m
 
--- the end of the test of all flows
-pub flows-tested : (r : Record) (lengths : List ℕ) (ok : Bool) (shares width n : ℕ) → n ≡ r .flows
-    → ok ≡ allBelow (λ f. flowTested (r .clock .0) (r .width) f lengths (flowAt r f)) n
-    → shares ≡ sharesOf (r .flow) n → width ≡ widthOf (r .flow) n
-    → (ok && leb shares 1000 && eqb width (r .width)) ≡ flowsTested r lengths
+-- the test of all flows: it goes on while each is well, is left at the first that is not, and ends with the sums
+abbrev tested : Record → List ℕ → ℕ → Bool
+tested r lengths f = flowTested (r .clock .0) (r .width) f lengths (flowAt r f)
+
+pub flows-more : (r : Record) (lengths : List ℕ) (f : ℕ) (here : Bool) → allBelow (tested r lengths) f ≡ true
+    → here ≡ tested r lengths f → not here ≡ false → allBelow (tested r lengths) (f + 1) ≡ true
+flows-more r lengths f here all e h =
+    sym (allBelow-turn (tested r lengths) f true here (sym all) e) ∙ not-false here h
+
+pub flows-left : (r : Record) (lengths : List ℕ) (f : ℕ) (here : Bool) → f < r .flows
+    → here ≡ tested r lengths f → not here ≡ true → false ≡ flowsTested r lengths
 unfolding flowsTested
-flows-tested r lengths ok shares width n e a b c = rw (a, b, c, e)
+flows-left r lengths f here l e h = go (allBelow (tested r lengths) (r .flows)) refl
+  where
+    go : (b : Bool) → allBelow (tested r lengths) (r .flows) ≡ b
+        → false ≡ (b && leb (sharesOf (r .flow) (r .flows)) 1000 && eqb (widthOf (r .flow) (r .flows)) (r .width))
+    go true all = true-false (sym (allBelow-at (tested r lengths) (r .flows) all f l) ∙ sym e ∙ not-true here h)
+    go false all = refl
+
+pub flows-ended : (r : Record) (lengths : List ℕ) (shares width n : ℕ) → n ≡ r .flows
+    → allBelow (tested r lengths) n ≡ true → shares ≡ sharesOf (r .flow) n → width ≡ widthOf (r .flow) n
+    → (leb shares 1000 && eqb width (r .width)) ≡ flowsTested r lengths
+unfolding flowsTested
+flows-ended r lengths shares width n e a b c = rw (b, c, ← e, a)
 
 -- the flows beyond: nothing is asked below the number of flows, and a spare flow from there on
 pub rest-none : (r : Record) → true ≡ allBelow (λ f. counts r f || spareFlow (flowAt r f)) (r .flows)

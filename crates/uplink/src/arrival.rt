@@ -12,7 +12,7 @@ use crate::Refusal;
 impl Record {
     // The packet is taken: it goes behind the flow's last one.
     fn store(
-        self,
+        mut self,
         table: &[u32; 1000],
         flow: u32,
         length: u32,
@@ -32,10 +32,9 @@ impl Record {
         handles[at] = handle;
         let cost = cost::cost_in(table, w.share);
         let joined = flow::joined(w, self.clock, bytes, cost);
-        let mut next = self;
-        next.flow[f] = joined;
+        self.flow[f] = joined;
         Arrived {
-            next,
+            next: self,
             reply: ArrivalReply::Done,
         }
     }

@@ -36,21 +36,22 @@ impl Record {
         ensures { λ r. ⌜ r ≡ flowsTested self (now (lengths .entry)) ⌝ }
     {
         let clock = self.clock;
-        let mut ok = true;
         let mut shares: u32 = 0;
         let mut width: u64 = 0;
         let mut f: u32 = 0;
         while f < self.flows {
             let at = f as usize;
             let w = self.flow[at];
+            if !flow_ok(w, f, clock, self.width, lengths) {
+                return false;
+            }
             let cost = cost::cost_in(table, w.share);
             let ticks = flow::charge_ticks(w.largest, cost);
             shares = shares + w.share as u32;
             width = flow::larger_of(width, ticks);
-            ok = ok & flow_ok(w, f, clock, self.width, lengths);
             f += 1;
         }
-        (ok & (shares <= 1000)) & (width == self.width as u64)
+        (shares <= 1000) & (width == self.width as u64)
     }
 
     // All fields of the flows beyond the number of flows are 0.

@@ -17,7 +17,7 @@ const CLOCK_LIMIT: u64 = 4611686018427387904;
 impl Record {
     // Steps 3 to 5: the clock leaps or not, the front packet of `flow` goes, and the next one comes to the front.
     fn serve(
-        self,
+        mut self,
         table: &[u32; 1000],
         flow: u32,
         lengths: &mut [u16],
@@ -39,16 +39,17 @@ impl Record {
         handles[front] = 0;
         let leap = flow::leap(self.clock, self.width, tag);
         let sent = flow::link_ticks(length);
-        let clock = ServerTicks(leap.clock.0 + sent);
-        let link = LinkTicks(self.link.0 + sent);
+        let server_time = leap.clock.0 + sent;
+        let link_time = self.link.0 + sent;
+        let clock = ServerTicks(server_time);
+        let link = LinkTicks(link_time);
         let cost = cost::cost_in(table, w.share);
         let served = flow::served(w, clock, following, cost);
-        let mut next = self;
-        next.clock = clock;
-        next.link = link;
-        next.flow[f] = served;
+        self.clock = clock;
+        self.link = link;
+        self.flow[f] = served;
         Picked {
-            next,
+            next: self,
             reply: PickReply::Packet {
                 flow,
                 length,
@@ -61,20 +62,19 @@ impl Record {
     }
 
     // Step 1: nothing waits, so clock, link time and all tags become 0.
-    fn rested(self) -> Record
+    fn rested(mut self) -> Record
         ensures { λ r. ⌜ r ≡ restedRecord self ⌝ }
     {
-        let mut next = self;
-        next.clock.0 = 0;
-        next.link.0 = 0;
+        self.clock.0 = 0;
+        self.link.0 = 0;
         let mut f = 0;
         while f < 64 {
-            let mut w = next.flow[f];
+            let mut w = self.flow[f];
             w.tag.0 = 0;
-            next.flow[f] = w;
+            self.flow[f] = w;
             f += 1;
         }
-        next
+        self
     }
 
     // Step 2, Idle and refusal 10.

@@ -19,7 +19,7 @@ abbrev μ-loop : tie.MeasureT-loop
 μ-loop next₀ f₀ next f = 64 - f
 
 loop-holds : tie.Need-loop-holds Inv-loop μ-loop
-loop-holds c = (search needs, rest-none (c .before .before .args .self))
+loop-holds c = (search needs, rest-none (c .before .before .args .t1))
 
 mul-w : tie.Need-mul-w Inv-loop μ-loop
 mul-w c = search needs
@@ -40,10 +40,10 @@ loop-less : tie.Need-loop-less Inv-loop μ-loop
 loop-less c = search needs
 
 loop-again : tie.Need-loop-again Inv-loop μ-loop
-loop-again c = (omega arith, rest-turn (c .before .before .before .before .before .before .args .self) _ _ (c .before .before .before .loop .inv .1))
+loop-again c = (omega arith, rest-turn (c .before .before .before .before .before .before .args .t1) _ _ (c .before .before .before .loop .inv .1))
 
 returns : tie.Need-returns Inv-loop μ-loop
-returns c = rest-done (c .before .before .before .before .args .self) _ _ (omega arith) (c .before .loop .inv .1)
+returns c = rest-done (c .before .before .before .before .args .t1) _ _ (omega arith) (c .before .loop .inv .1)
 
 pub rested-spec : {M : Type 1} → statement M
 rested-spec =

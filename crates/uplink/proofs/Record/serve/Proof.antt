@@ -54,11 +54,11 @@ leap-requires c κs = search needs
 link-ticks-requires : tie.Need-link-ticks-requires
 link-ticks-requires c κs = search needs
 
-add-t34 : tie.Need-add-t34
-add-t34 c = omega (arith, leap-most _ _ _ _ (c .before .before .leap .ensures))
+add-server-time : tie.Need-add-server-time
+add-server-time c = omega (arith, leap-most _ _ _ _ (c .before .before .leap .ensures))
 
-add-t35 : tie.Need-add-t35
-add-t35 c = omega arith
+add-link-time : tie.Need-add-link-time
+add-link-time c = omega arith
 
 cost-in-requires : tie.Need-cost-in-requires
 cost-in-requires c κs = search needs
@@ -108,8 +108,8 @@ serve-spec =
     slice-write-handles
     leap-requires
     link-ticks-requires
-    add-t34
-    add-t35
+    add-server-time
+    add-link-time
     cost-in-requires
     served-requires
     mul-served
