@@ -16,8 +16,12 @@ const DEEP: u32 = 8;
 const PICKS: u32 = 200_000;
 
 fn noon() -> Result<(), Refusal> {
-    let shares: Vec<u32> = (0..FLOWS).map(|f| if f == CAMERA { 700 } else { 5 }).collect();
-    let largest: Vec<u32> = (0..FLOWS).map(|f| if f == CAMERA { 1500 } else { 64 }).collect();
+    let shares: Vec<u32> = (0..FLOWS)
+        .map(|f| if f == CAMERA { 700 } else { 5 })
+        .collect();
+    let largest: Vec<u32> = (0..FLOWS)
+        .map(|f| if f == CAMERA { 1500 } else { 64 })
+        .collect();
     let mut link = Uplink::open(&shares, &largest)?;
 
     // The burst: every flow has packets waiting, and each that is sent is followed by another.
@@ -45,8 +49,16 @@ fn noon() -> Result<(), Refusal> {
     let logged: u64 = loggers.iter().sum();
     println!("{} bytes sent, {} picks, {} leaps", all, PICKS, leaps);
     let part = |bytes: u64| 1000.0 * bytes as f64 / all as f64;
-    println!("camera:       {:10} bytes, {:5.1} thousandths, booked 700", bytes[CAMERA], part(bytes[CAMERA]));
-    println!("60 loggers:   {:10} bytes, {:5.1} thousandths, booked 300", logged, part(logged));
+    println!(
+        "camera:       {:10} bytes, {:5.1} thousandths, booked 700",
+        bytes[CAMERA],
+        part(bytes[CAMERA])
+    );
+    println!(
+        "60 loggers:   {:10} bytes, {:5.1} thousandths, booked 300",
+        logged,
+        part(logged)
+    );
     println!("least logger: {:10} bytes", loggers.iter().min().unwrap());
     println!("most logger:  {:10} bytes", loggers.iter().max().unwrap());
     Ok(())

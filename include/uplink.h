@@ -4,8 +4,8 @@
  *   record   UPLINK_RECORD_WORDS words that only the scheduler looks into;
  *   lengths  UPLINK_PLACES 16-bit places, the lengths of the waiting packets;
  *   handles  UPLINK_PLACES 32-bit places, the caller's own names for them.
- * No two of them may overlap. The promise on shares holds from an accepted opening on, for as long as all three
- * are carried unaltered from call to call.
+ * No two of them may overlap, nor may an opening's lists or a pick's reply overlap one of them. The promise on shares
+ * holds from an accepted opening on, for as long as all three are carried unaltered from call to call.
  *
  * Any values may be handed in: a call never crashes, never reads or writes outside what is lent, and always returns.
  * A refused call changes no word of anything that is lent. No call keeps a pointer, allocates or blocks, and calls on

@@ -1,0 +1,73 @@
+-- `gateway::gateway_arrival` meets its contract: each way through it is one case of its definition, and an
+-- arrival that is done is a step of its flow.
+-- Assumes nothing.
+use Rattle.gateway.proofs.Stepping.{arrival-stepped}
+use Rattle.gateway.proofs.Calls.{arrival-unblocked, arrival-refused, arrival-done}
+use borrow.Author.Needs.{needs}
+use Rattle.gateway.proofs.gateway_arrival.Statement.{statement}
+use Rattle.gateway.proofs.gateway_arrival.Tie as tie
+
+returns : tie.Need-returns
+returns c = search (needs, arrival-unblocked)
+
+record-of-requires : tie.Need-record-of-requires
+record-of-requires c κs = search needs
+
+arrival-requires : tie.Need-arrival-requires
+arrival-requires c κs = search needs
+
+enum-known-answer : tie.Need-enum-known-answer
+enum-known-answer c = search needs
+
+number-of-requires : tie.Need-number-of-requires
+number-of-requires c κs = search needs
+
+same-length : tie.Need-same-length
+same-length c = search needs
+
+same-length-2 : tie.Need-same-length-2
+same-length-2 c = search needs
+
+same-length-3 : tie.Need-same-length-3
+same-length-3 c = search needs
+
+returns-2 : tie.Need-returns-2
+returns-2 c = search (needs, arrival-refused)
+
+enum-told : tie.Need-enum-told
+enum-told c = search needs
+
+write-step-requires : tie.Need-write-step-requires
+write-step-requires c κs = search (needs, arrival-stepped)
+
+same-length-4 : tie.Need-same-length-4
+same-length-4 c = search needs
+
+same-length-5 : tie.Need-same-length-5
+same-length-5 c = search needs
+
+same-length-6 : tie.Need-same-length-6
+same-length-6 c = search needs
+
+returns-3 : tie.Need-returns-3
+returns-3 c = search (needs, arrival-done)
+
+pub gateway-arrival-spec : {M : Type 1} → statement M
+gateway-arrival-spec =
+    tie.close
+    (tie.spec
+    returns
+    record-of-requires
+    arrival-requires
+    enum-known-answer
+    number-of-requires
+    same-length
+    same-length-2
+    same-length-3
+    returns-2
+    enum-told
+    write-step-requires
+    same-length-4
+    same-length-5
+    same-length-6
+    returns-3)

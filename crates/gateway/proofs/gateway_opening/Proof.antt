@@ -1,0 +1,91 @@
+-- `gateway::gateway_opening` meets its contract: each way through it is one case of its definition.
+-- Assumes nothing.
+use Rattle.gateway.proofs.Calls.{opening-unblocked, opening-refused, opening-done}
+use borrow.Author.Needs.{needs}
+use Rattle.gateway.proofs.gateway_opening.Statement.{statement}
+use Rattle.gateway.proofs.gateway_opening.Tie as tie
+
+cast-result : tie.Need-cast-result
+cast-result c = search needs
+
+returns : tie.Need-returns
+returns c = search (needs, opening-unblocked)
+
+opening-requires : tie.Need-opening-requires
+opening-requires c κs = search needs
+
+enum-known-answer : tie.Need-enum-known-answer
+enum-known-answer c = search needs
+
+number-of-requires : tie.Need-number-of-requires
+number-of-requires c κs = search needs
+
+flow-told-requires : tie.Need-flow-told-requires
+flow-told-requires c κs = search needs
+
+cast-result-2 : tie.Need-cast-result-2
+cast-result-2 c = search needs
+
+cast-result-3 : tie.Need-cast-result-3
+cast-result-3 c = search needs
+
+mul-result : tie.Need-mul-result
+mul-result c = search needs
+
+add-result : tie.Need-add-result
+add-result c = search needs
+
+same-length : tie.Need-same-length
+same-length c = search needs
+
+same-length-2 : tie.Need-same-length-2
+same-length-2 c = search needs
+
+returns-2 : tie.Need-returns-2
+returns-2 c = search (needs, opening-refused)
+
+enum-told : tie.Need-enum-told
+enum-told c = search needs
+
+write-record-requires : tie.Need-write-record-requires
+write-record-requires c κs = search needs
+
+cast-result-4 : tie.Need-cast-result-4
+cast-result-4 c = search needs
+
+same-length-3 : tie.Need-same-length-3
+same-length-3 c = search needs
+
+same-length-4 : tie.Need-same-length-4
+same-length-4 c = search needs
+
+same-length-5 : tie.Need-same-length-5
+same-length-5 c = search needs
+
+returns-3 : tie.Need-returns-3
+returns-3 c = search (needs, opening-done)
+
+pub gateway-opening-spec : {M : Type 1} → statement M
+gateway-opening-spec =
+    tie.close
+    (tie.spec
+    cast-result
+    returns
+    opening-requires
+    enum-known-answer
+    number-of-requires
+    flow-told-requires
+    cast-result-2
+    cast-result-3
+    mul-result
+    add-result
+    same-length
+    same-length-2
+    returns-2
+    enum-told
+    write-record-requires
+    cast-result-4
+    same-length-3
+    same-length-4
+    same-length-5
+    returns-3)

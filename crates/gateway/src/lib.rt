@@ -1,0 +1,192 @@
+// The scheduler for C and Rust: the three calls of the crate `uplink` over a block of 131 words that the caller keeps.
+// include/uplink.h says to the caller what is lent and what each number means.
+ghost use mathlib.Core.Path.{_≡_};
+ghost use mathlib.Core.List.{[]};
+ghost use lib.ListN.{length};
+ghost use Rattle.uplink.specs.Reply.{done, refusal, packet};
+ghost use Rattle.gateway.specs.Gateway.{numberOf, flowTold, answered, lending};
+ghost use Rattle.gateway.specs.Gateway.{gatewayOpening, gatewayArrival, gatewayPick};
+
+mod image;
+
+use flow::ServerTicks;
+use uplink::ArrivalReply;
+use uplink::OpeningReply;
+use uplink::PickReply;
+use uplink::Record;
+use uplink::Refusal;
+
+// The words of a block.
+const BLOCK_WORDS: usize = 131;
+
+// The words of a reply.
+const REPLY_WORDS: usize = 6;
+
+// What a call answers besides document 01's numbers 1 to 10, by its name in include/uplink.h.
+const DONE: u32 = 0;
+
+// Nothing waits.
+const IDLE: u32 = 100;
+
+// The block has not exactly 131 words.
+const REFUSED_RECORD: u32 = 101;
+
+// The reply has not exactly 6 words.
+const REFUSED_REPLY: u32 = 102;
+
+// Document 01's number of a refusal.
+fn number_of(why: Refusal) -> u32
+    ensures { λ r. ⌜ r ≡ numberOf (refusal why) ⌝ }
+{
+    match why {
+        Refusal::Memory => 1,
+        Refusal::Form => 2,
+        Refusal::Lists => 3,
+        Refusal::Share(_) => 4,
+        Refusal::Largest(_) => 5,
+        Refusal::Sum => 6,
+        Refusal::NoFlow => 7,
+        Refusal::Length => 8,
+        Refusal::Full => 9,
+        Refusal::Clock => 10,
+    }
+}
+
+// The flow that refusals 4 and 5 come with; 0 with every other.
+fn flow_told(why: Refusal) -> u32
+    ensures { λ r. ⌜ r ≡ flowTold (refusal why) ⌝ }
+{
+    match why {
+        Refusal::Share(flow) => flow,
+        Refusal::Largest(flow) => flow,
+        Refusal::Memory => 0,
+        Refusal::Form => 0,
+        Refusal::Lists => 0,
+        Refusal::Sum => 0,
+        Refusal::NoFlow => 0,
+        Refusal::Length => 0,
+        Refusal::Full => 0,
+        Refusal::Clock => 0,
+    }
+}
+
+// The packet to send, in a reply of six words.
+fn write_packet(
+    flow: u32,
+    bytes: u16,
+    handle: u32,
+    tag: ServerTicks,
+    leapt: bool,
+    clock: ServerTicks,
+    reply: &mut [u64],
+)
+    requires { ⌜ length (now reply) ≡ 6 ⌝ }
+    ensures { λ _. ⌜ done (now (reply .exit)) ≡ packet flow bytes handle (tag .0) leapt (clock .0) ⌝ }
+{
+    reply[0] = flow as u64;
+    reply[1] = bytes as u64;
+    reply[2] = handle as u64;
+    reply[3] = tag.0;
+    reply[4] = leapt as u64;
+    reply[5] = clock.0;
+}
+
+// Opens a table: its flows' shares and largest packets.
+#[no_mangle]
+pub extern "C" fn gateway_opening(
+    shares: &[u32],
+    largest: &[u32],
+    block: &mut [u64],
+    lengths: &mut [u16],
+    handles: &mut [u32],
+) -> u64
+    ensures exact { λ r. ⌜ answered r (lending (now (block .exit)) (now (lengths .exit)) (now (handles .exit)) [])
+        ≡ gatewayOpening (now (shares .entry)) (now (largest .entry))
+        (lending (now (block .entry)) (now (lengths .entry)) (now (handles .entry)) []) ⌝ }
+{
+    if block.len() != BLOCK_WORDS {
+        return REFUSED_RECORD as u64;
+    }
+    let opened = Record::opening(shares, largest, lengths, handles);
+    let answer = opened.reply;
+    if let OpeningReply::Refused(why) = answer {
+        let number = number_of(why);
+        let flow = flow_told(why);
+        return number as u64 + 4294967296 * (flow as u64);
+    }
+    let next = opened.next;
+    image::write_record(next, block);
+    DONE as u64
+}
+
+// A packet comes to a flow.
+#[no_mangle]
+pub extern "C" fn gateway_arrival(
+    flow: u32,
+    length: u32,
+    handle: u32,
+    block: &mut [u64],
+    lengths: &mut [u16],
+    handles: &mut [u32],
+) -> u32
+    ensures exact { λ r. ⌜ answered r (lending (now (block .exit)) (now (lengths .exit)) (now (handles .exit)) [])
+        ≡ gatewayArrival flow length handle
+        (lending (now (block .entry)) (now (lengths .entry)) (now (handles .entry)) []) ⌝ }
+{
+    if block.len() != BLOCK_WORDS {
+        return REFUSED_RECORD;
+    }
+    let held = image::record_of(block);
+    let arrived = held.arrival(flow, length, handle, lengths, handles);
+    let answer = arrived.reply;
+    if let ArrivalReply::Refused(why) = answer {
+        return number_of(why);
+    }
+    let next = arrived.next;
+    image::write_step(next, flow, block);
+    DONE
+}
+
+// The packet to send next.
+#[no_mangle]
+pub extern "C" fn gateway_pick(
+    block: &mut [u64],
+    lengths: &mut [u16],
+    handles: &mut [u32],
+    reply: &mut [u64],
+) -> u32
+    ensures exact { λ r. ⌜ answered r
+        (lending (now (block .exit)) (now (lengths .exit)) (now (handles .exit)) (now (reply .exit)))
+        ≡ gatewayPick
+        (lending (now (block .entry)) (now (lengths .entry)) (now (handles .entry)) (now (reply .entry))) ⌝ }
+{
+    if block.len() != BLOCK_WORDS {
+        return REFUSED_RECORD;
+    }
+    if reply.len() != REPLY_WORDS {
+        return REFUSED_REPLY;
+    }
+    let held = image::record_of(block);
+    let picked = held.pick(lengths, handles);
+    let answer = picked.reply;
+    match answer {
+        PickReply::Refused(why) => number_of(why),
+        PickReply::Idle => {
+            image::write_rest(block);
+            IDLE
+        }
+        PickReply::Packet {
+            flow,
+            length,
+            handle,
+            tag,
+            leapt,
+            clock,
+        } => {
+            let next = picked.next;
+            image::write_step(next, flow, block);
+            write_packet(flow, length, handle, tag, leapt, clock, reply);
+            DONE
+        }
+    }
+}

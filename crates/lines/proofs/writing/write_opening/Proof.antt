@@ -1,0 +1,52 @@
+-- `lines::writing::write_opening` meets its contract: each kind of reply is one case of the line that an opening
+-- writes. A refusal's number and flow are those of the paper's table.
+-- Assumes nothing.
+use Rattle.lines.proofs.Replying.{opening-done, opening-refused}
+use borrow.Author.Needs.{needs}
+use Rattle.lines.proofs.writing.write_opening.Statement.{statement}
+use Rattle.lines.proofs.writing.write_opening.Tie as tie
+
+enum-told : tie.Need-enum-told
+enum-told c = search needs
+
+slice-aggregate-put-line : tie.Need-slice-aggregate-put-line
+slice-aggregate-put-line c = search needs
+
+put-line-requires : tie.Need-put-line-requires
+put-line-requires c κs = search needs
+
+enum-known-reply : tie.Need-enum-known-reply
+enum-known-reply c = search needs
+
+refusal-number-requires : tie.Need-refusal-number-requires
+refusal-number-requires c κs = search needs
+
+refusal-flow-requires : tie.Need-refusal-flow-requires
+refusal-flow-requires c κs = search needs
+
+slice-aggregate-put-line-2 : tie.Need-slice-aggregate-put-line-2
+slice-aggregate-put-line-2 c = search needs
+
+put-line-requires-2 : tie.Need-put-line-requires-2
+put-line-requires-2 c κs = search needs
+
+returns : tie.Need-returns
+returns c = search (needs, opening-done)
+
+returns-2 : tie.Need-returns-2
+returns-2 c = search (needs, opening-refused)
+
+pub write-opening-spec : {M : Type 1} → statement M
+write-opening-spec =
+    tie.close
+    (tie.spec
+    enum-told
+    slice-aggregate-put-line
+    put-line-requires
+    enum-known-reply
+    refusal-number-requires
+    refusal-flow-requires
+    slice-aggregate-put-line-2
+    put-line-requires-2
+    returns
+    returns-2)

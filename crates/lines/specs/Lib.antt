@@ -1,0 +1,12 @@
+-- What people must believe of the lines of a script, to be read beside document 01, "The script program". `Text`:
+-- where lines and fields end. `Ends`: what callers use of it. `Number`: numbers read and written. `Line`: what a line
+-- says. `Output`: the line that a reply is written as. `Step`: the state of a script and what a line makes of it.
+-- `Whole`: what the program writes for its input. `Example`: the document's whole example, computed.
+pub mod Text
+pub mod Ends
+pub mod Number
+pub mod Line
+pub mod Output
+pub mod Step
+pub mod Whole
+pub mod Example

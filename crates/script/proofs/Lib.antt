@@ -1,0 +1,2 @@
+-- `Running`: what holds at each buffer of output.
+pub mod Running

@@ -1,0 +1,35 @@
+// The script program: document 01, "The script program". It runs a script of calls and writes a line for each reply.
+// Everything between the bytes read and the bytes written is `lines`, proved to the letter: where lines end, what they
+// say, the calls and the output. This file is proved safe and to end. What no proof says, since no contract can speak
+// of what is read or written, is that it reads the first 65,536 bytes of standard input and that it writes each buffer
+// that `Script::run` fills, in order and once.
+ghost use Prim.Native.Nat.{_≤_};
+ghost use lib.ListN.{length};
+use libc::STDIN_FILENO;
+use libc::STDOUT_FILENO;
+
+// All lines of the input, a buffer of output at a time. A closed output ends it.
+fn run(input: &[u8], lengths: &mut [u16], handles: &mut [u32], out: &mut [u8])
+    requires { ⌜ 160 ≤ length (now out) ⌝ }
+{
+    let mut script = lines::start();
+    let mut at = 0;
+    while at < input.len() {
+        let ran = script.run(input, at, lengths, handles, out);
+        let written = ran.written;
+        if !io::write_all(STDOUT_FILENO, &out[..written]) {
+            return;
+        }
+        script = ran.next;
+        at = ran.at;
+    }
+}
+
+fn main() {
+    let mut input = io::large_buffer();
+    let count = io::read_full(STDIN_FILENO, &mut input);
+    let mut lengths = [0u16; 4096];
+    let mut handles = [0u32; 4096];
+    let mut out = io::large_buffer();
+    run(&input[..count], &mut lengths, &mut handles, &mut out);
+}
