@@ -68,14 +68,15 @@ loop-again c =
     let charged = c .before .before in
     let passed = charged .before .before in
     let turn = passed .before .before .before .before in
-    let known = turn .loop .inv in
-    (omega arith,
-    flows-more (turn .before .before .before .args .t1) _ _ _ (known .1) (passed .before .flow-ok .ensures) (passed .if1 .left),
-    shares-turn _ _ _ (known .2),
-    width-turn _ _ _ _ _ _ (known .3)
-    (priced _ _ _ (turn .before .before .before .pre .2) (charged .before .cost-in .ensures))
-    (charged .charge-ticks .ensures .0) (c .larger-of .ensures),
-    omega arith)
+    let known = turn .loop .inv in (
+      omega arith,
+      flows-more (turn .before .before .before .args .t1) _ _ _ (known .1) (passed .before .flow-ok .ensures) (passed .if1 .left),
+      shares-turn _ _ _ (known .2),
+      width-turn _ _ _ _ _ _ (known .3)
+          (priced _ _ _ (turn .before .before .before .pre .2) (charged .before .cost-in .ensures))
+          (charged .charge-ticks .ensures .0) (c .larger-of .ensures),
+      omega arith,
+    )
 
 cast-result : tie.Need-cast-result Inv-loop μ-loop
 cast-result c = search needs
