@@ -15,7 +15,7 @@ use Rattle.uplink.specs.declared.Refusal.{Refusal}
 use Rattle.uplink.specs.declared.OpeningReply.{OpeningReply}
 use Rattle.uplink.specs.declared.ArrivalReply.{ArrivalReply}
 use Rattle.uplink.specs.declared.PickReply.{PickReply}
-use Rattle.uplink.specs.Reply.{Reply, idle, done, refused, refusal, packet}
+use Rattle.uplink.specs.Reply.{Reply, idle, done, refused, refusal, packet, replyNumber, replyFlow}
 use Rattle.uplink.specs.Reply.{openingReply, arrivalReply, pickReply}
 use Rattle.uplink.specs.Replies.{told}
 use Rattle.uplink.specs.Record.{flowAt, counts, blank}
@@ -28,7 +28,7 @@ use Rattle.uplink.specs.Pick.{clockLimit, serveRule, restedRecord, idleRule, ch
 use Rattle.gateway.specs.Image.{wordsOf, recordOf}
 use Rattle.gateway.proofs.Stepping.{pick-rested}
 use Rattle.gateway.specs.Gateway as gateway
-use Rattle.gateway.specs.Gateway.{lending, answered, numberOf, flowTold, withFlow}
+use Rattle.gateway.specs.Gateway.{lending, answered, numberOf, withFlow}
 use Rattle.gateway.specs.Gateway.{gatewayOpening, gatewayArrival, gatewayPick}
 
 -- a refused call leaves both memories as they came
@@ -83,6 +83,10 @@ module _ (lengths handles : List ℕ) where
       (keeps-else (leadOf (r .flow) (r .flows) .waits) idle (restedRecord r)
       (keeps-else (ltb (r .clock .0) clockLimit) (refused 10 0) r (keeps-done _ _)))
 
+-- a refusal's number is the one that the caller is told
+number-told : (why : Refusal) → replyNumber (refusal why) ≡ numberOf (refusal why)
+number-told why = rw (told why .says)
+
 -- an outcome as it is told to the caller
 module _ (tell : Reply → ℕ) (block lengths handles reply lengths' handles' : List ℕ) (next : Record) (o : Outcome) where
   refused-told : (number flow : ℕ) → o .reply ≡ refused number flow
@@ -122,11 +126,11 @@ module _ (shares largest block lengths handles : List ℕ) where
   module _ (lengths' handles' : List ℕ) (reply : OpeningReply) (next : Record) (h : length block ≡ 131)
       (e : outcome (openingReply reply) next lengths' handles' ≡ openingRule shares largest lengths handles) where
     pub opening-refused : (why : Refusal) (number flow : ℕ) → reply ≡ OpeningReply.Refused why
-        → number ≡ numberOf (refusal why) → flow ≡ flowTold (refusal why)
+        → number ≡ replyNumber (refusal why) → flow ≡ replyFlow (refusal why)
         → answered (number + 2 ^ 32 * flow) (lending block lengths' handles' [])
         ≡ gatewayOpening shares largest (lending block lengths handles [])
     unfolding gatewayOpening
-    opening-refused why number flow q n f = rw (eq-eqb (length block) 131 h, n, f)
+    opening-refused why number flow q n f = rw (eq-eqb (length block) 131 h, n, f, number-told why)
         (why-told withFlow block _ _ [] lengths' handles' next _ why (opening-keeps _ _ shares largest)
         (ap (λ (a : OpeningReply). outcome (openingReply a) next lengths' handles') (sym q) ∙ e))
 
@@ -150,11 +154,11 @@ module _ (flow bytes handle : ℕ) (block lengths handles : List ℕ) where
       (e : outcome (arrivalReply reply) next lengths' handles'
       ≡ arrivalRule (state held lengths handles) flow bytes handle) where
     pub arrival-refused : (why : Refusal) (number : ℕ) → reply ≡ ArrivalReply.Refused why
-        → number ≡ numberOf (refusal why)
+        → number ≡ replyNumber (refusal why)
         → answered number (lending block lengths' handles' [])
         ≡ gatewayArrival flow bytes handle (lending block lengths handles [])
     unfolding gatewayArrival
-    arrival-refused why number q n = rw (eq-eqb (length block) 131 h, n, ← r)
+    arrival-refused why number q n = rw (eq-eqb (length block) 131 h, n, number-told why, ← r)
         (why-told numberOf block _ _ [] lengths' handles' next _ why (arrival-keeps _ _ held flow bytes handle)
         (ap (λ (a : ArrivalReply). outcome (arrivalReply a) next lengths' handles') (sym q) ∙ e))
 
@@ -180,10 +184,10 @@ module _ (block lengths handles reply : List ℕ) where
   module _ (lengths' handles' : List ℕ) (answer : PickReply) (held next : Record) (h : length block ≡ 131)
       (k : length reply ≡ 6) (r : held ≡ recordOf block)
       (e : outcome (pickReply answer) next lengths' handles' ≡ pickRule (state held lengths handles)) where
-    pub pick-refused : (why : Refusal) (number : ℕ) → answer ≡ PickReply.Refused why → number ≡ numberOf (refusal why)
+    pub pick-refused : (why : Refusal) (number : ℕ) → answer ≡ PickReply.Refused why → number ≡ replyNumber (refusal why)
         → answered number (lending block lengths' handles' reply) ≡ gatewayPick (lending block lengths handles reply)
     unfolding gatewayPick
-    pick-refused why number q n = rw (eq-eqb (length block) 131 h, eq-eqb (length reply) 6 k, n, ← r)
+    pick-refused why number q n = rw (eq-eqb (length block) 131 h, eq-eqb (length reply) 6 k, n, number-told why, ← r)
         (why-told numberOf block _ _ reply lengths' handles' next _ why (pick-keeps _ _ held)
         (ap (λ (a : PickReply). outcome (pickReply a) next lengths' handles') (sym q) ∙ e))
 

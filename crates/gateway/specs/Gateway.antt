@@ -6,7 +6,7 @@ use mathlib.Core.List.{List}
 use Prim.Native.Nat.{ℕ, _+_, _*_, _^_}
 use lib.Dec.{eqb}
 use lib.ListN.{length}
-use Rattle.uplink.specs.Reply.{Reply, idle, done, refused}
+use Rattle.uplink.specs.Reply.{Reply, idle, done, refused, replyFlow}
 use Rattle.uplink.specs.State.{State, Outcome, state}
 use Rattle.uplink.specs.Opening.{openingRule}
 use Rattle.uplink.specs.Arrival.{arrivalRule}
@@ -38,15 +38,9 @@ numberOf idle = 100
 numberOf (done values) = 0
 numberOf (refused number flow) = number
 
--- the flow that a refusal tells
-abbrev pub flowTold : Reply → ℕ
-flowTold idle = 0
-flowTold (done values) = 0
-flowTold (refused number flow) = flow
-
 -- an opening's answer has the flow in its high 32 bits
 abbrev pub withFlow : Reply → ℕ
-withFlow reply = numberOf reply + 2 ^ 32 * flowTold reply
+withFlow reply = numberOf reply + 2 ^ 32 * replyFlow reply
 
 -- what an outcome leaves: the next record's words and both memories, and the values of the reply where there are some.
 -- "A refused call changes no word of anything that is lent."

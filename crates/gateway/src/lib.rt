@@ -3,8 +3,8 @@
 ghost use mathlib.Core.Path.{_≡_};
 ghost use mathlib.Core.List.{[]};
 ghost use lib.ListN.{length};
-ghost use Rattle.uplink.specs.Reply.{done, refusal, packet};
-ghost use Rattle.gateway.specs.Gateway.{numberOf, flowTold, answered, lending};
+ghost use Rattle.uplink.specs.Reply.{done, packet};
+ghost use Rattle.gateway.specs.Gateway.{answered, lending};
 ghost use Rattle.gateway.specs.Gateway.{gatewayOpening, gatewayArrival, gatewayPick};
 
 mod image;
@@ -14,7 +14,6 @@ use uplink::ArrivalReply;
 use uplink::OpeningReply;
 use uplink::PickReply;
 use uplink::Record;
-use uplink::Refusal;
 
 // The words of a block.
 const BLOCK_WORDS: usize = 131;
@@ -33,42 +32,6 @@ const REFUSED_RECORD: u32 = 101;
 
 // The reply has not exactly 6 words.
 const REFUSED_REPLY: u32 = 102;
-
-// Document 01's number of a refusal.
-fn number_of(why: Refusal) -> u32
-    ensures { λ r. ⌜ r ≡ numberOf (refusal why) ⌝ }
-{
-    match why {
-        Refusal::Memory => 1,
-        Refusal::Form => 2,
-        Refusal::Lists => 3,
-        Refusal::Share(_) => 4,
-        Refusal::Largest(_) => 5,
-        Refusal::Sum => 6,
-        Refusal::NoFlow => 7,
-        Refusal::Length => 8,
-        Refusal::Full => 9,
-        Refusal::Clock => 10,
-    }
-}
-
-// The flow that refusals 4 and 5 come with; 0 with every other.
-fn flow_told(why: Refusal) -> u32
-    ensures { λ r. ⌜ r ≡ flowTold (refusal why) ⌝ }
-{
-    match why {
-        Refusal::Share(flow) => flow,
-        Refusal::Largest(flow) => flow,
-        Refusal::Memory => 0,
-        Refusal::Form => 0,
-        Refusal::Lists => 0,
-        Refusal::Sum => 0,
-        Refusal::NoFlow => 0,
-        Refusal::Length => 0,
-        Refusal::Full => 0,
-        Refusal::Clock => 0,
-    }
-}
 
 // The packet to send, in a reply of six words.
 fn write_packet(
@@ -110,8 +73,8 @@ pub extern "C" fn gateway_opening(
     let opened = Record::opening(shares, largest, lengths, handles);
     let answer = opened.reply;
     if let OpeningReply::Refused(why) = answer {
-        let number = number_of(why);
-        let flow = flow_told(why);
+        let number = why.number();
+        let flow = why.flow();
         return number as u64 + 4294967296 * (flow as u64);
     }
     let next = opened.next;
@@ -140,7 +103,7 @@ pub extern "C" fn gateway_arrival(
     let arrived = held.arrival(flow, length, handle, lengths, handles);
     let answer = arrived.reply;
     if let ArrivalReply::Refused(why) = answer {
-        return number_of(why);
+        return why.number();
     }
     let next = arrived.next;
     image::write_step(next, flow, block);
@@ -170,7 +133,7 @@ pub extern "C" fn gateway_pick(
     let picked = held.pick(lengths, handles);
     let answer = picked.reply;
     match answer {
-        PickReply::Refused(why) => number_of(why),
+        PickReply::Refused(why) => why.number(),
         PickReply::Idle => {
             image::write_rest(block);
             IDLE

@@ -9,10 +9,10 @@ use Rattle.uplink.specs.declared.Refusal.{Refusal}
 use Rattle.uplink.specs.declared.OpeningReply.{OpeningReply}
 use Rattle.uplink.specs.declared.ArrivalReply.{ArrivalReply}
 use Rattle.uplink.specs.declared.PickReply.{PickReply}
-use Rattle.uplink.specs.Reply.{idle, refusal, openingReply, arrivalReply, pickReply}
+use Rattle.uplink.specs.Reply.{idle, refusal, openingReply, arrivalReply, pickReply, replyNumber, replyFlow}
 use Rattle.uplink.specs.Replies.{told}
 use Rattle.lines.specs.Line.{letterO, letterA, letterP}
-use Rattle.lines.specs.Output.{replyNumber, replyFlow, lineText, openingLine, arrivalLine, pickLine, Written}
+use Rattle.lines.specs.Output.{lineText, openingLine, arrivalLine, pickLine, Written}
 
 module _ (out : List ℕ) (written : ℕ) where
   pub opening-done : (reply : OpeningReply) → reply ≡ OpeningReply.Done

@@ -4,7 +4,7 @@ use mathlib.Core.Path.{_≡_}
 use mathlib.Core.List.{List, [], _∷_, _++_}
 use Prim.Native.Nat.{ℕ, _≤_, _<_}
 use lib.ListN.{length, take, drop}
-use Rattle.uplink.specs.Reply.{Reply, idle, done, refused}
+use Rattle.uplink.specs.Reply.{Reply, idle, done, refused, replyNumber, replyFlow}
 use Rattle.lines.specs.Text.{space, lineFeed}
 use Rattle.lines.specs.Number.{decimal}
 use Rattle.lines.specs.Line.{letterO, letterA, letterP}
@@ -20,17 +20,6 @@ fieldTexts (n ∷ ns) = fieldText n ++ fieldTexts ns
 -- "Each output line but `bad` starts with its call's letter, then its fields"
 abbrev pub lineText : ℕ → List ℕ → List ℕ
 lineText letter fields = (letter ∷ fieldTexts fields) ++ lineFeed ∷ []
-
--- the number of a reply, "0 for done", and its flow
-abbrev pub replyNumber : Reply → ℕ
-replyNumber idle = 0
-replyNumber (done values) = 0
-replyNumber (refused number flow) = number
-
-abbrev pub replyFlow : Reply → ℕ
-replyFlow idle = 0
-replyFlow (done values) = 0
-replyFlow (refused number flow) = flow
 
 -- "`bad`"
 abbrev pub badLine : List ℕ

@@ -5,7 +5,7 @@ ghost use Prim.Native.Nat.{_+_, _*_, _≤_};
 ghost use lib.ListN.{length};
 ghost use Rattle.uplink.specs.Reply.{idle, refusal, openingReply, arrivalReply, pickReply};
 ghost use Rattle.lines.specs.Text.{Put};
-ghost use Rattle.lines.specs.Output.{replyNumber, replyFlow, fieldText, lineText};
+ghost use Rattle.lines.specs.Output.{fieldText, lineText};
 ghost use Rattle.lines.specs.Output.{badLine, openingLine, arrivalLine, pickLine};
 ghost use Rattle.lines.specs.Output.{Spelt, Written};
 use crate::text::append;
@@ -64,40 +64,6 @@ fn put_line(out: &mut [u8], letter: u8, fields: &[u64]) -> usize
     at + 1
 }
 
-fn refusal_number(why: Refusal) -> u64
-    ensures { λ r. ⌜ r ≡ replyNumber (refusal why) ⌝ }
-{
-    match why {
-        Refusal::Memory => 1,
-        Refusal::Form => 2,
-        Refusal::Lists => 3,
-        Refusal::Share(_) => 4,
-        Refusal::Largest(_) => 5,
-        Refusal::Sum => 6,
-        Refusal::NoFlow => 7,
-        Refusal::Length => 8,
-        Refusal::Full => 9,
-        Refusal::Clock => 10,
-    }
-}
-
-fn refusal_flow(why: Refusal) -> u64
-    ensures { λ r. ⌜ r ≡ replyFlow (refusal why) ⌝ }
-{
-    match why {
-        Refusal::Share(flow) => flow as u64,
-        Refusal::Largest(flow) => flow as u64,
-        Refusal::Memory => 0,
-        Refusal::Form => 0,
-        Refusal::Lists => 0,
-        Refusal::Sum => 0,
-        Refusal::NoFlow => 0,
-        Refusal::Length => 0,
-        Refusal::Full => 0,
-        Refusal::Clock => 0,
-    }
-}
-
 fn flag(leapt: bool) -> u64
     ensures { λ r. ⌜ r ≡ cond leapt 1 0 ⌝ }
 {
@@ -127,8 +93,8 @@ pub fn write_opening(out: &mut [u8; 160], reply: OpeningReply) -> usize
             put_line(out, b'o', &fields)
         }
         OpeningReply::Refused(why) => {
-            let number = refusal_number(why);
-            let flow = refusal_flow(why);
+            let number = why.number() as u64;
+            let flow = why.flow() as u64;
             let fields = [number, flow];
             put_line(out, b'o', &fields)
         }
@@ -145,7 +111,7 @@ pub fn write_arrival(out: &mut [u8; 160], reply: ArrivalReply) -> usize
             put_line(out, b'a', &fields)
         }
         ArrivalReply::Refused(why) => {
-            let number = refusal_number(why);
+            let number = why.number() as u64;
             let fields = [number];
             put_line(out, b'a', &fields)
         }
@@ -174,7 +140,7 @@ pub fn write_pick(out: &mut [u8; 160], reply: PickReply) -> usize
             put_line(out, b'p', &fields)
         }
         PickReply::Refused(why) => {
-            let number = refusal_number(why);
+            let number = why.number() as u64;
             let fields = [number];
             put_line(out, b'p', &fields)
         }

@@ -6,6 +6,7 @@
 // owns places 64 f to 64 f + 63.
 ghost use mathlib.Core.Path.{_≡_};
 ghost use Rattle.uplink.specs.Record.{blank};
+ghost use Rattle.uplink.specs.Reply.{refusal, replyNumber, replyFlow};
 
 mod arrival;
 mod choice;
@@ -97,6 +98,44 @@ pub struct Arrived {
 pub struct Picked {
     pub next: Record,
     pub reply: PickReply,
+}
+
+impl Refusal {
+    // Document 01's number.
+    pub fn number(self) -> u32
+        ensures { λ r. ⌜ r ≡ replyNumber (refusal self) ⌝ }
+    {
+        match self {
+            Refusal::Memory => 1,
+            Refusal::Form => 2,
+            Refusal::Lists => 3,
+            Refusal::Share(_) => 4,
+            Refusal::Largest(_) => 5,
+            Refusal::Sum => 6,
+            Refusal::NoFlow => 7,
+            Refusal::Length => 8,
+            Refusal::Full => 9,
+            Refusal::Clock => 10,
+        }
+    }
+
+    // The flow that numbers 4 and 5 come with; 0 with every other.
+    pub fn flow(self) -> u32
+        ensures { λ r. ⌜ r ≡ replyFlow (refusal self) ⌝ }
+    {
+        match self {
+            Refusal::Share(flow) => flow,
+            Refusal::Largest(flow) => flow,
+            Refusal::Memory => 0,
+            Refusal::Form => 0,
+            Refusal::Lists => 0,
+            Refusal::Sum => 0,
+            Refusal::NoFlow => 0,
+            Refusal::Length => 0,
+            Refusal::Full => 0,
+            Refusal::Clock => 0,
+        }
+    }
 }
 
 impl Record {

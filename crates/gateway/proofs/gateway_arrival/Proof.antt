@@ -19,8 +19,8 @@ arrival-requires c κs = search needs
 enum-known-answer : tie.Need-enum-known-answer
 enum-known-answer c = search needs
 
-number-of-requires : tie.Need-number-of-requires
-number-of-requires c κs = search needs
+number-requires : tie.Need-number-requires
+number-requires c κs = search needs
 
 same-length : tie.Need-same-length
 same-length c = search needs
@@ -60,7 +60,7 @@ gateway-arrival-spec =
     record-of-requires
     arrival-requires
     enum-known-answer
-    number-of-requires
+    number-requires
     same-length
     same-length-2
     same-length-3

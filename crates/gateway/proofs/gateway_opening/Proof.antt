@@ -17,11 +17,11 @@ opening-requires c κs = search needs
 enum-known-answer : tie.Need-enum-known-answer
 enum-known-answer c = search needs
 
-number-of-requires : tie.Need-number-of-requires
-number-of-requires c κs = search needs
+number-requires : tie.Need-number-requires
+number-requires c κs = search needs
 
-flow-told-requires : tie.Need-flow-told-requires
-flow-told-requires c κs = search needs
+flow-requires : tie.Need-flow-requires
+flow-requires c κs = search needs
 
 cast-result-2 : tie.Need-cast-result-2
 cast-result-2 c = search needs
@@ -73,8 +73,8 @@ gateway-opening-spec =
     returns
     opening-requires
     enum-known-answer
-    number-of-requires
-    flow-told-requires
+    number-requires
+    flow-requires
     cast-result-2
     cast-result-3
     mul-result

@@ -22,8 +22,8 @@ pick-requires c κs = search needs
 enum-known-answer : tie.Need-enum-known-answer
 enum-known-answer c = search needs
 
-number-of-requires : tie.Need-number-of-requires
-number-of-requires c κs = search needs
+number-requires : tie.Need-number-requires
+number-requires c κs = search needs
 
 enum-told : tie.Need-enum-told
 enum-told c = search needs
@@ -88,7 +88,7 @@ gateway-pick-spec =
     record-of-requires
     pick-requires
     enum-known-answer
-    number-of-requires
+    number-requires
     enum-told
     write-rest-requires
     enum-known-answer-2

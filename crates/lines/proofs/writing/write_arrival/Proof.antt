@@ -18,8 +18,11 @@ put-line-requires c κs = search needs
 enum-known-reply : tie.Need-enum-known-reply
 enum-known-reply c = search needs
 
-refusal-number-requires : tie.Need-refusal-number-requires
-refusal-number-requires c κs = search needs
+number-requires : tie.Need-number-requires
+number-requires c κs = search needs
+
+cast-number : tie.Need-cast-number
+cast-number c = search needs
 
 slice-aggregate-put-line-2 : tie.Need-slice-aggregate-put-line-2
 slice-aggregate-put-line-2 c = search needs
@@ -41,7 +44,8 @@ write-arrival-spec =
     slice-aggregate-put-line
     put-line-requires
     enum-known-reply
-    refusal-number-requires
+    number-requires
+    cast-number
     slice-aggregate-put-line-2
     put-line-requires-2
     returns

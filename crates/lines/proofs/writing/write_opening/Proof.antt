@@ -18,11 +18,17 @@ put-line-requires c κs = search needs
 enum-known-reply : tie.Need-enum-known-reply
 enum-known-reply c = search needs
 
-refusal-number-requires : tie.Need-refusal-number-requires
-refusal-number-requires c κs = search needs
+number-requires : tie.Need-number-requires
+number-requires c κs = search needs
 
-refusal-flow-requires : tie.Need-refusal-flow-requires
-refusal-flow-requires c κs = search needs
+cast-number : tie.Need-cast-number
+cast-number c = search needs
+
+flow-requires : tie.Need-flow-requires
+flow-requires c κs = search needs
+
+cast-flow : tie.Need-cast-flow
+cast-flow c = search needs
 
 slice-aggregate-put-line-2 : tie.Need-slice-aggregate-put-line-2
 slice-aggregate-put-line-2 c = search needs
@@ -44,8 +50,10 @@ write-opening-spec =
     slice-aggregate-put-line
     put-line-requires
     enum-known-reply
-    refusal-number-requires
-    refusal-flow-requires
+    number-requires
+    cast-number
+    flow-requires
+    cast-flow
     slice-aggregate-put-line-2
     put-line-requires-2
     returns

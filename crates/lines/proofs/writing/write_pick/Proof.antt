@@ -36,8 +36,11 @@ put-line-requires c κs = search needs
 enum-known-reply-2 : tie.Need-enum-known-reply-2
 enum-known-reply-2 c = search needs
 
-refusal-number-requires : tie.Need-refusal-number-requires
-refusal-number-requires c κs = search needs
+number-requires : tie.Need-number-requires
+number-requires c κs = search needs
+
+cast-number : tie.Need-cast-number
+cast-number c = search needs
 
 slice-aggregate-put-line-2 : tie.Need-slice-aggregate-put-line-2
 slice-aggregate-put-line-2 c = search needs
@@ -68,7 +71,8 @@ write-pick-spec =
     slice-aggregate-put-line
     put-line-requires
     enum-known-reply-2
-    refusal-number-requires
+    number-requires
+    cast-number
     slice-aggregate-put-line-2
     put-line-requires-2
     returns
