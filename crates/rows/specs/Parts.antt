@@ -8,17 +8,16 @@ use Prim.Native.Nat.{ℕ, _+_}
 use lib.Dec.{ltb, eqb}
 use lib.ListN.{set}
 use borrow.Author.Tests.{eqb-false}
-use Rattle.cost.specs.Cost.{within}
-use Rattle.flow.specs.Steps.{linkTicks, joinedFlow, servedFlow, ticks}
-use Rattle.flow.specs.declared.Flow.{Flow}
-use Rattle.flow.specs.declared.ServerTicks.{ServerTicks}
-use Rattle.uplink.specs.Record.{flowAt, counts, flowCost, moved}
-use Rattle.uplink.specs.Reply.{done, packet}
-use Rattle.uplink.specs.State.{State, Outcome, outcome, demand}
+use Rattle.cost.specs.Charge.{linkTicks}
+use Rattle.reply.specs.Reply.{done, packet}
+use Rattle.tags.specs.Ticks.{ticks}
+use Rattle.tags.specs.declared.ServerTicks.{ServerTicks}
+use Rattle.uplink.specs.Flow.{Flow, flowCost, joinedFlow, servedFlow}
+use Rattle.uplink.specs.Record.{flowAt, moved, put}
+use Rattle.uplink.specs.State.{State, Outcome, outcome, demand, unlessRefused}
 use Rattle.uplink.specs.Form.{checked}
-use Rattle.uplink.specs.Choice.{leadOf}
-use Rattle.uplink.specs.Arrival.{lastPlace, storeRule, joinRule, arrivalRule}
-use Rattle.uplink.specs.Pick.{clockLimit, frontPlace, frontLength, frontHandle, behindLength, leapt, linkAfter}
+use Rattle.uplink.specs.Arrival.{lastPlace, joining, storeRule, joinRule, arrivalRule}
+use Rattle.uplink.specs.Pick.{clockLimit, leadOf, leapt, frontPlace, frontLength, frontHandle, behindLength, linkOn}
 use Rattle.uplink.specs.Pick.{serveRule, idleRule, chooseRule, pickRule}
 
 -- two things differ where some number in them does
@@ -31,13 +30,11 @@ arrivalWith joined s f n handle =
     let r = s .held in
     let w = flowAt r f in
     checked s
-    (demand (counts r f) 7 s
-    (demand (within 1 (w .largest) n) 8 s
-    (demand (ltb (w .waiting) 64) 9 s
+    (unlessRefused (joining s f n) s
     (outcome (done [])
-    (moved r (r .clock .0) (r .link .0) (set (r .flow) f (joined w (r .clock) (flowCost w) n)))
+    (put r f (joined w (r .clock) (flowCost w) n))
     (set (s .lengths) (lastPlace s f) n)
-    (set (s .handles) (lastPlace s f) handle)))))
+    (set (s .handles) (lastPlace s f) handle)))
 
 -- with the rule's own joined flow it is the rule
 pub arrival-parts : (s : State) (f n handle : ℕ) → arrivalWith joinedFlow s f n handle ≡ arrivalRule s f n handle
@@ -47,7 +44,7 @@ arrival-parts s f n handle = refl
 -- a pick that does something else at Idle, or at the flow of step 2
 abbrev pub pickWith : (State → Outcome) → (State → ℕ → Outcome) → State → Outcome
 pickWith whenIdle serve s =
-    let lead = leadOf (s .held .flow) (s .held .flows) in
+    let lead = leadOf (s .held) in
     checked s
     (cond (lead .waits) (demand (ltb (s .held .clock .0) clockLimit) 10 s (serve s (lead .flow))) (whenIdle s))
 
@@ -63,11 +60,11 @@ serveWith leapt link s f =
     let w = flowAt r f in
     let clock = cond leapt (r .clock .0 + r .width) (r .clock .0) + linkTicks (frontLength s f) in
     outcome (packet f (frontLength s f) (frontHandle s f) (w .tag .0) leapt clock)
-    (moved r clock link (set (r .flow) f (servedFlow w (ticks clock) (flowCost w) (behindLength s f))))
+    (put (moved r clock link) f (servedFlow w (ticks clock) (flowCost w) (behindLength s f)))
     (set (s .lengths) (frontPlace s f) 0)
     (set (s .handles) (frontPlace s f) 0)
 
 -- with the rule's own leap and link time it is the rule
-pub serve-parts : (s : State) (f : ℕ) → serveWith (leapt (s .held) f) (linkAfter s f) s f ≡ serveRule s f
+pub serve-parts : (s : State) (f : ℕ) → serveWith (leapt (s .held) f) (linkOn s f) s f ≡ serveRule s f
 unfolding serveRule
 serve-parts s f = refl

@@ -6,10 +6,10 @@ use mathlib.Core.List.{List, [], _∷_, _++_}
 use Prim.Native.Nat.{ℕ}
 use lib.Dec.{eqb}
 use Rattle.cost.specs.Cost.{costOf}
-use Rattle.flow.specs.Steps.{leapClock}
+use Rattle.reply.specs.Reply.{Reply, idle, done, refused, packet}
+use Rattle.tags.specs.Ticks.{leapClock}
 use Rattle.uplink.specs.declared.Record.{Record}
-use Rattle.uplink.specs.Record.{flowAt}
-use Rattle.uplink.specs.Reply.{Reply, idle, done, refused, packet}
+use Rattle.uplink.specs.Record.{tagOf}
 use Rattle.uplink.specs.State.{State}
 use Rattle.uplink.specs.Calls.{Call, opening, arrival, start}
 use Rattle.rows.specs.Script.{run, replies}
@@ -69,7 +69,7 @@ sameReplies (a ∷ more) (b ∷ others) = sameReply a b && sameReplies more othe
 -- one claim holds of a record
 abbrev pub claimHolds : Record → Claim → Bool
 claimHolds r (clockIs clock) = eqb (r .clock .0) clock
-claimHolds r (tagIs flow tag) = eqb (flowAt r flow .tag .0) tag
+claimHolds r (tagIs flow tag) = eqb (tagOf r flow) tag
 claimHolds r (widthIs width) = eqb (r .width) width
 claimHolds r (costIs share cost) = eqb (costOf share) cost
 claimHolds r (leapIs clock T after) = eqb (leapClock clock (r .width) T) after

@@ -1,7 +1,7 @@
 -- Lists of calls, each made on the record and the memories that the one before it left, to be computed.
 -- Assumes nothing.
 use mathlib.Core.List.{List, [], _∷_}
-use Rattle.uplink.specs.Reply.{Reply}
+use Rattle.reply.specs.Reply.{Reply}
 use Rattle.uplink.specs.State.{State}
 use Rattle.uplink.specs.Calls.{Call, afterCall, everyRule}
 

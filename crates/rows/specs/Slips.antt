@@ -6,14 +6,15 @@ use Prim.Native.Nat.{ℕ, _+_, _*_, _/_, min, _≤_}
 use native.Mathlib.Omega.{arith}
 use lib.Dec.{leb, eqb}
 use borrow.Author.Tests.{eqb-false, le-ltb}
-use Rattle.below.specs.Listed.{mapFirst}
 use Rattle.cost.specs.Cost.{costOf}
-use Rattle.flow.specs.Steps.{leaps, leapClock, frontTag, queued, untagged}
-use Rattle.uplink.specs.Record.{flowAt, moved}
-use Rattle.uplink.specs.Reply.{idle}
+use Rattle.reply.specs.Reply.{idle}
+use Rattle.queues.specs.Queue.{joined}
+use Rattle.tags.specs.Ticks.{leaps, leapClock, frontTag}
+use Rattle.uplink.specs.Flow.{flowOf}
+use Rattle.uplink.specs.Record.{tagOf, moved, rested}
 use Rattle.uplink.specs.State.{State, Outcome, outcome}
 use Rattle.uplink.specs.Arrival.{arrivalRule}
-use Rattle.uplink.specs.Pick.{linkAfter, serveRule, idleRule, pickRule}
+use Rattle.uplink.specs.Pick.{linkOn, serveRule, idleRule, pickRule}
 use Rattle.rows.specs.Examples.{bothWait, noneWaits, atEquality, afterLeap}
 use Rattle.rows.specs.Parts.{apart, arrivalWith, pickWith, serveWith}
 
@@ -52,7 +53,7 @@ one-leap-enough clock width T near = go (leaps clock width T) refl
 -- "or leaping at equality": at P5's pick
 abbrev pub leapsAtEquality : State → Outcome
 leapsAtEquality = pickWith idleRule
-    (λ s f. serveWith (leb (s .held .clock .0 + 2 * s .held .width) (flowAt (s .held) f .tag .0)) (linkAfter s f) s f)
+    (λ s f. serveWith (leb (s .held .clock .0 + 2 * s .held .width) (tagOf (s .held) f)) (linkOn s f) s f)
 
 pub leaps-at-equality-differs : leapsAtEquality atEquality ≡ pickRule atEquality → ⊥
 unfolding atEquality
@@ -61,7 +62,7 @@ leaps-at-equality-differs = apart (λ o. o .state .held .clock .0) _ _ refl
 -- "Leaping before looking for nothing waiting, so that Idle keeps a clock": at P4's pick
 abbrev pub idleKeepsClock : State → Outcome
 idleKeepsClock = pickWith
-    (λ s. outcome idle (moved (s .held) (s .held .clock .0) 0 (mapFirst untagged 64 (s .held .flow))) (s .lengths) (s .handles))
+    (λ s. outcome idle (moved (rested (s .held)) (s .held .clock .0) 0) (s .lengths) (s .handles))
     serveRule
 
 pub idle-keeps-clock-differs : idleKeepsClock noneWaits ≡ pickRule noneWaits → ⊥
@@ -71,28 +72,28 @@ idle-keeps-clock-differs = apart (λ o. o .state .held .clock .0) _ _ refl
 -- "Leaving the tags at Idle while the clock goes to 0": at P4's pick
 abbrev pub idleKeepsTags : State → Outcome
 idleKeepsTags = pickWith
-    (λ s. outcome idle (moved (s .held) 0 0 (s .held .flow)) (s .lengths) (s .handles))
+    (λ s. outcome idle (moved (s .held) 0 0) (s .lengths) (s .handles))
     serveRule
 
 pub idle-keeps-tags-differs : idleKeepsTags noneWaits ≡ pickRule noneWaits → ⊥
 unfolding noneWaits
-idle-keeps-tags-differs = apart (λ o. flowAt (o .state .held) 0 .tag .0) _ _ refl
+idle-keeps-tags-differs = apart (λ o. tagOf (o .state .held) 0) _ _ refl
 
 -- "Tagging on arrival behind a waiting packet": a second packet of 100 bytes at flow 0, after P1
 abbrev pub tagsBehind : State → ℕ → ℕ → ℕ → Outcome
 tagsBehind = arrivalWith
-    (λ w clock cost n. queued w (frontTag (w .tag .0) (clock .0) cost n) (w .first) (w .waiting + 1))
+    (λ w clock cost n. flowOf (frontTag (w .tag .0) (clock .0) cost n) (joined (w .queue)))
 
 pub tags-behind-differs : tagsBehind bothWait 0 100 9 ≡ arrivalRule bothWait 0 100 9 → ⊥
 unfolding bothWait
-tags-behind-differs = apart (λ o. flowAt (o .state .held) 0 .tag .0) _ _ refl
+tags-behind-differs = apart (λ o. tagOf (o .state .held) 0) _ _ refl
 
 -- "Restarting an empty flow at the clock and forgetting its higher tag": 100 bytes at flow 0 after P6, as at P8
 abbrev pub restartsAtClock : State → ℕ → ℕ → ℕ → Outcome
 restartsAtClock = arrivalWith
-    (λ w clock cost n. queued w
-    (cond (eqb (w .waiting) 0) (frontTag 0 (clock .0) cost n) (w .tag .0)) (w .first) (w .waiting + 1))
+    (λ w clock cost n.
+    flowOf (cond (eqb (w .queue .waiting) 0) (frontTag 0 (clock .0) cost n) (w .tag .0)) (joined (w .queue)))
 
 pub restarts-at-clock-differs : restartsAtClock afterLeap 0 100 7 ≡ arrivalRule afterLeap 0 100 7 → ⊥
 unfolding afterLeap
-restarts-at-clock-differs = apart (λ o. flowAt (o .state .held) 0 .tag .0) _ _ refl
+restarts-at-clock-differs = apart (λ o. tagOf (o .state .held) 0) _ _ refl

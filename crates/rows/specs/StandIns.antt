@@ -7,13 +7,13 @@ use mathlib.Core.List.{List, [], _∷_}
 use Prim.Native.Nat.{ℕ, _+_}
 use lib.Dec.{eqb}
 use lib.ListN.{getD}
+use Rattle.reply.specs.Reply.{Reply, idle, done, refused}
 use Rattle.uplink.specs.declared.Record.{Record}
-use Rattle.uplink.specs.Record.{blank, flowAt}
-use Rattle.uplink.specs.Reply.{Reply, idle, done, refused}
+use Rattle.uplink.specs.Record.{blank, waitingOf}
 use Rattle.uplink.specs.State.{State, Outcome, outcome}
 use Rattle.uplink.specs.Opening.{openingRule}
 use Rattle.uplink.specs.Arrival.{arrivalRule}
-use Rattle.uplink.specs.Pick.{leapt, linkAfter, serveRule, idleRule, pickRule}
+use Rattle.uplink.specs.Pick.{leapt, linkOn, serveRule, idleRule, pickRule}
 use Rattle.uplink.specs.Calls.{everyRule, start}
 use Rattle.rows.specs.Examples.{pair, bothWait, flow1Waits, beforeLeap, flow1Leads}
 use Rattle.rows.specs.Parts.{apart, pickWith, serveWith}
@@ -84,7 +84,7 @@ keepsRecordPick s = keepsRecord s (pickRule s)
 -- two packets wait in flow 0 after the arrival, and it says one
 pub keeps-record-arrival-differs : keepsRecordArrival bothWait 0 100 9 ≡ arrivalRule bothWait 0 100 9 → ⊥
 unfolding bothWait
-keeps-record-arrival-differs = apart (λ o. flowAt (o .state .held) 0 .waiting) _ _ refl
+keeps-record-arrival-differs = apart (λ o. waitingOf (o .state .held) 0) _ _ refl
 
 -- the clock is 72,000 after P2's pick, and it says 0
 pub keeps-record-pick-differs : keepsRecordPick bothWait ≡ pickRule bothWait → ⊥
@@ -122,7 +122,7 @@ books-first-handles-differ = apart (λ handles. getD handles 64 0) _ _ refl
 
 -- "one that invents leaps": it leaps at every pick, and so at P2's
 abbrev pub inventsLeaps : State → Outcome
-inventsLeaps = pickWith idleRule (λ s f. serveWith true (linkAfter s f) s f)
+inventsLeaps = pickWith idleRule (λ s f. serveWith true (linkOn s f) s f)
 
 pub invents-leaps-differs : inventsLeaps bothWait ≡ pickRule bothWait → ⊥
 unfolding bothWait
@@ -131,7 +131,7 @@ invents-leaps-differs = apart (λ o. clockOf (o .state .held)) _ _ refl
 -- "or link time": a leap adds Δ to link time too, and so at P6's pick
 abbrev pub inventsLinkTime : State → Outcome
 inventsLinkTime = pickWith idleRule
-    (λ s f. serveWith (leapt (s .held) f) (linkAfter s f + cond (leapt (s .held) f) (s .held .width) 0) s f)
+    (λ s f. serveWith (leapt (s .held) f) (linkOn s f + cond (leapt (s .held) f) (s .held .width) 0) s f)
 
 pub invents-link-time-differs : inventsLinkTime beforeLeap ≡ pickRule beforeLeap → ⊥
 unfolding beforeLeap

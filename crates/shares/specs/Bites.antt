@@ -11,7 +11,8 @@ use lib.Dec.{ltb, lit<, lit≤}
 use lib.ListN.{replicate}
 use borrow.Author.Tests.{ltb-true}
 use Rattle.below.specs.Truth.{true-false, both-true}
-use Rattle.uplink.specs.Record.{flowAt, flowCost}
+use Rattle.uplink.specs.Flow.{flowCost}
+use Rattle.uplink.specs.Record.{flowAt, tagOf, waitingOf}
 use Rattle.uplink.specs.State.{State, Outcome}
 use Rattle.uplink.specs.Pick.{pickRule}
 use Rattle.uplink.specs.Calls.{Call, opening, arrival, pick, start, afterCall, everyRule}
@@ -70,12 +71,12 @@ plain-of (pick ∷ calls) e = (tt, plain-of calls e)
 -- flow f waits at every call, as a test to be computed
 abbrev waitsAll : ℕ → State → List Event → Bool
 waitsAll f s [] = true
-waitsAll f s (x ∷ xs) = ltb 0 (flowAt (s .held) f .waiting) && waitsAll f (x .outcome .state) xs
+waitsAll f s (x ∷ xs) = ltb 0 (waitingOf (s .held) f) && waitsAll f (x .outcome .state) xs
 
 -- and what it says
 waits-of : (f : ℕ) (s : State) (xs : List Event) → waitsAll f s xs ≡ true → WaitsAtPicks f s xs
 waits-of f s [] e = tt
-waits-of f s (x ∷ xs) e = let both = both-true (ltb 0 (flowAt (s .held) f .waiting)) _ e in
+waits-of f s (x ∷ xs) e = let both = both-true (ltb 0 (waitingOf (s .held) f)) _ e in
     (λ _. ltb-true 0 _ (both .0), waits-of f (x .outcome .state) xs (both .1))
 
 -- two flows of 500: flow 0 waits while it is picked once and flow 1 is picked once
@@ -110,7 +111,7 @@ fair-holds =
     rule-share (fair-shows .carried) 0 (fair-shows .counts) (fair .stretch) (fair-shows .plain) (fair-shows .waits)
 
 -- both front packets of `fair` have the tag 144,000
-tied-least : (g : ℕ) → g < 2 → flowAt (beginOf fair .held) 1 .tag .0 ≤ flowAt (beginOf fair .held) g .tag .0
+tied-least : (g : ℕ) → g < 2 → tagOf (beginOf fair .held) 1 ≤ tagOf (beginOf fair .held) g
 unfolding everyRule
 tied-least zero l = lit≤ tt
 tied-least (suc zero) l = lit≤ tt

@@ -11,11 +11,14 @@ use lib.ListN.{length}
 use borrow.Author.Tests.{eq-eqb, ne-eqb}
 use Rattle.below.specs.Below.{mostBelow-least}
 use Rattle.cost.specs.Cost.{costOf, cost-covers}
-use Rattle.flow.specs.Steps.{chargeOf, chargeTicks}
-use Rattle.flow.specs.Form.{queueFormed, tagFormed}
-use Rattle.flow.specs.Laws.{ranged-out, queue-at, tag-idle-in, tag-waiting-in}
-use Rattle.flow.specs.declared.Flow.{Flow}
-use Rattle.uplink.specs.Record.{flowAt, flowCost, sharesOf, widthOf}
+use Rattle.cost.specs.Charge.{chargeOf, chargeTicks}
+use Rattle.queues.specs.Queues.{sharesOf, widthOf}
+use Rattle.queues.specs.Form.{queueFormed}
+use Rattle.queues.specs.Laws.{ranged-out, queue-at}
+use Rattle.tags.specs.Form.{tagFormed}
+use Rattle.tags.specs.Laws.{tag-idle-in, tag-waiting-in}
+use Rattle.uplink.specs.Flow.{Flow, flowCost}
+use Rattle.uplink.specs.Record.{flowAt, Rows}
 use Rattle.uplink.specs.State.{State}
 use Rattle.uplink.specs.Formed.{Formed}
 use Rattle.uplink.specs.Pick.{frontLength}
@@ -33,11 +36,11 @@ abbrev pub clockOf : State → ℕ
 clockOf s = s .held .clock .0
 
 abbrev pub tableOf : State → Table
-tableOf s = tableWith (s .held .flows) (s .held .width) (λ f. flowOf s f .share)
+tableOf s = tableWith (s .held .flows) (s .held .width) (λ f. flowOf s f .queue .share)
 
 -- the charge of flow f's front packet, and 0 where nothing waits
 unfoldable pub frontCharge : State → ℕ → ℕ
-frontCharge s f = cond (eqb (flowOf s f .waiting) 0) 0 (chargeOf (frontLength s f))
+frontCharge s f = cond (eqb (flowOf s f .queue .waiting) 0) 0 (chargeOf (frontLength s f))
 
 -- each flow's tag and front charge
 abbrev pub viewOf : State → View
@@ -46,7 +49,7 @@ viewOf s = record { tag = λ f. flowOf s f .tag .0; charge = frontCharge s }
 -- what holds of record and memories from an accepted opening on
 pub record Steady (s : State) : Type 0 where
   -- the record has its 64 rows, and each memory its 4,096 places
-  pub rows : length (s .held .flow) ≡ 64
+  pub rows : Rows (s .held)
   pub lengths-lent : length (s .lengths) ≡ 4096
   pub handles-lent : length (s .handles) ≡ 4096
   -- the record is well formed
@@ -55,25 +58,25 @@ pub record Steady (s : State) : Type 0 where
   pub good : Good (tableOf s) (clockOf s) (viewOf s)
 
 -- a flow that does not wait has no charge, one that waits its front packet's
-pub charge-idle : (s : State) (f : ℕ) → flowOf s f .waiting ≡ 0 → frontCharge s f ≡ 0
+pub charge-idle : (s : State) (f : ℕ) → flowOf s f .queue .waiting ≡ 0 → frontCharge s f ≡ 0
 unfolding frontCharge
 charge-idle s f e = rw (eq-eqb _ 0 e)
 
-pub charge-waits : (s : State) (f : ℕ) → 0 < flowOf s f .waiting → frontCharge s f ≡ chargeOf (frontLength s f)
+pub charge-waits : (s : State) (f : ℕ) → 0 < flowOf s f .queue .waiting → frontCharge s f ≡ chargeOf (frontLength s f)
 unfolding frontCharge
-charge-waits s f h = rw (ne-eqb (flowOf s f .waiting) 0 (λ e. omega arith))
+charge-waits s f h = rw (ne-eqb (flowOf s f .queue .waiting) 0 (λ e. omega arith))
 
 -- a flow with a charge waits
-pub waits-charge : (s : State) (f : ℕ) → 0 < frontCharge s f → 0 < flowOf s f .waiting
-waits-charge s f h = elim (ℕ-discrete (flowOf s f .waiting) 0) as (λ _. 0 < flowOf s f .waiting) [
+pub waits-charge : (s : State) (f : ℕ) → 0 < frontCharge s f → 0 < flowOf s f .queue .waiting
+waits-charge s f h = elim (ℕ-discrete (flowOf s f .queue .waiting) 0) as (λ _. 0 < flowOf s f .queue .waiting) [
   | yes q ↦ absurd (omega (arith, charge-idle s f q))
   | no q ↦ omega arith
 ]
 
 -- and one that waits has a charge
-pub charge-some : (s : State) (f : ℕ) → queueFormed f (s .lengths) (flowOf s f) ≡ true
-    → 0 < flowOf s f .waiting → 0 < frontCharge s f
-charge-some s f queue w = omega (arith, charge-waits s f w, queue-at f (s .lengths) (flowOf s f) queue 0 w)
+pub charge-some : (s : State) (f : ℕ) → queueFormed f (s .lengths) (flowOf s f .queue) ≡ true
+    → 0 < flowOf s f .queue .waiting → 0 < frontCharge s f
+charge-some s f queue w = omega (arith, charge-waits s f w, queue-at f (s .lengths) (flowOf s f .queue) queue 0 w)
 
 module _ (s : State) (F : Formed (s .held) (s .lengths)) where
   -- the shares of a well-formed record pay for their bytes
@@ -82,12 +85,12 @@ module _ (s : State) (F : Formed (s .held) (s .lengths)) where
   table-sound =
       record {
         total = F .shares;
-        covers = λ j l. let R = ranged-out (flowOf s j) (F .each j l .range) in
-            cost-covers (flowOf s j .share) (R .share-low) (R .share-high);
+        covers = λ j l. let R = ranged-out (flowOf s j .queue) (F .each j l .range) in
+            cost-covers (flowOf s j .queue .share) (R .share-low) (R .share-high);
       }
 
   -- no packet that a flow may send is charged more than Δ
-  pub packet-fits : (f n : ℕ) → f < s .held .flows → n ≤ flowOf s f .largest
+  pub packet-fits : (f n : ℕ) → f < s .held .flows → n ≤ flowOf s f .queue .largest
       → chargeTicks (flowCost (flowOf s f)) n ≤ s .held .width
   unfolding widthOf
   packet-fits f n l h =
@@ -95,22 +98,21 @@ module _ (s : State) (F : Formed (s .held) (s .lengths)) where
         arith,
         F .width,
         mul-le-mul-right (flowCost (flowOf s f)) h,
-        mostBelow-least (λ j. chargeTicks (flowCost (flowOf s j)) (flowOf s j .largest)) (s .held .flows) f l,
+        mostBelow-least (λ j. chargeTicks (flowCost (flowOf s j)) (flowOf s j .queue .largest)) (s .held .flows) f l,
       )
 
 -- the backlog and the bounds keep the tags in form
 pub tags-formed : (s : State) → Sound (tableOf s) → Good (tableOf s) (clockOf s) (viewOf s)
-    → (f : ℕ) → f < s .held .flows → queueFormed f (s .lengths) (flowOf s f) ≡ true
-    → tagFormed (clockOf s) (s .held .width) (flowOf s f) ≡ true
-tags-formed s sound g f l queue = elim (ℕ-discrete (w .waiting) 0) as (λ _. tagFormed (clockOf s) width w ≡ true) [
-  | yes q ↦ tag-idle-in (clockOf s) width w q (omega (arith, rw (charge-idle s f q) at (g .near f l)))
-  | no q ↦ tag-waiting-in (clockOf s) width w (omega arith)
-      (omega (arith, in-time sound (clockOf s) f g l (charge-some s f queue (omega arith))))
-      (omega (arith, g .near f l, g .fits f l))
-]
-  where
-    width : ℕ
-    width = s .held .width
-
-    w : Flow
-    w = flowOf s f
+    → (f : ℕ) → f < s .held .flows → queueFormed f (s .lengths) (flowOf s f .queue) ≡ true
+    → tagFormed (clockOf s) (s .held .width) (flowOf s f .tag .0) (flowOf s f .queue .waiting) ≡ true
+tags-formed s sound g f l queue =
+    let c = clockOf s in
+    let width = s .held .width in
+    let tag = flowOf s f .tag .0 in
+    let waiting = flowOf s f .queue .waiting in
+    elim (ℕ-discrete waiting 0) as (λ _. tagFormed c width tag waiting ≡ true) [
+      | yes q ↦ tag-idle-in c width tag waiting q (omega (arith, rw (charge-idle s f q) at (g .near f l)))
+      | no q ↦ tag-waiting-in c width tag waiting (omega arith)
+          (omega (arith, in-time sound c f g l (charge-some s f queue (omega arith))))
+          (omega (arith, g .near f l, g .fits f l))
+    ]

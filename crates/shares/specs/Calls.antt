@@ -2,20 +2,24 @@
 -- Assumes nothing.
 use mathlib.Core.Path.{_≡_, refl, sym, ap, _∙_}
 use mathlib.Core.Bool.{Bool, true, false, cond}
+use mathlib.Core.List.{[]}
 use Prim.Native.Nat.{ℕ, _+_, _*_, _≤_, _<_}
 use native.Mathlib.Omega.{arith}
 use lib.Dec.{ltb}
 use borrow.Author.Tests.{ltb-true, ltb-false, eq-eqb}
 use Rattle.below.specs.Truth.{both-of}
 use Rattle.cost.specs.Cost.{within, within-bounds}
-use Rattle.flow.specs.Steps.{leaps, leapClock}
-use Rattle.uplink.specs.Record.{flowCost, counts}
-use Rattle.uplink.specs.Reply.{idle, refused}
-use Rattle.uplink.specs.State.{State, Outcome, demand, kept, lent}
+use Rattle.reply.specs.Reply.{Reply, idle, done, refused}
+use Rattle.queues.specs.Form.{counts}
+use Rattle.queues.specs.Places.{lent, joinReply}
+use Rattle.tags.specs.Ticks.{leaps, leapClock}
+use Rattle.tags.specs.Choice.{Smallest}
+use Rattle.tags.specs.Chosen.{leads}
+use Rattle.uplink.specs.Flow.{flowCost}
+use Rattle.uplink.specs.Record.{tagOf, waitingOf, put}
+use Rattle.uplink.specs.State.{State, Outcome, demand, kept, unlessRefused}
 use Rattle.uplink.specs.Form.{checked}
 use Rattle.uplink.specs.Formed.{formed-in}
-use Rattle.uplink.specs.Choice.{Smallest}
-use Rattle.uplink.specs.Chosen.{leads}
 use Rattle.uplink.specs.Arrival.{storeRule, joinRule}
 use Rattle.uplink.specs.Pick.{clockLimit, serveRule, idleRule}
 use Rattle.uplink.specs.Calls.{Call, opening, arrival, pick}
@@ -39,18 +43,18 @@ pub record Ways (s : State) (call : Call) (P : Outcome → Type 0) : Type 0 wher
   pub refuses : (number : ℕ) → Refuses s call number → P (kept number s)
   pub stores : (f n handle : ℕ) → Joins s f n → P (storeRule s f n handle)
   pub rests : call ≡ pick → Nobody s → P (idleRule s)
-  pub serves : call ≡ pick → (f : ℕ) → Smallest (s .held .flow) (s .held .flows) f → clockOf s < clockLimit
-      → P (serveRule s f)
+  pub serves : call ≡ pick → (f : ℕ) → Smallest (tagOf (s .held)) (waitingOf (s .held)) (s .held .flows) f
+      → clockOf s < clockLimit → P (serveRule s f)
 
 -- an arrival is no pick
 arrival-pick : {A : Type 0} {f n handle : ℕ} → arrival f n handle ≡ pick → A
 arrival-pick e = let z : _≡_ {A = ℕ} 0 1 = cc in absurd (omega arith)
 
 -- a test that the call goes on with, or is refused by
-demanded : (P : Outcome → Type 0) (test : Bool) (number : ℕ) (s : State) (on : Outcome)
-    → (test ≡ false → P (kept number s)) → (test ≡ true → P on) → P (demand test number s on)
-demanded P true number s on stop go = go refl
-demanded P false number s on stop go = stop refl
+tested : {A : Type 0} (P : A → Type 0) (test : Bool) (on stop : A)
+    → (test ≡ false → P stop) → (test ≡ true → P on) → P (cond test on stop)
+tested P true on stop out go = go refl
+tested P false on stop out go = out refl
 
 module _ (s : State) (S : Steady s) where
   -- neither 1 nor 2 is met
@@ -65,12 +69,14 @@ module _ (s : State) (S : Steady s) where
   -- an arrival is refused with 7, 8 or 9, or stored
   join-ways : (P : Outcome → Type 0) (f n handle : ℕ) → ((number : ℕ) → 3 ≤ number → P (kept number s))
       → (Joins s f n → P (storeRule s f n handle)) → P (joinRule s f n handle)
-  unfolding joinRule
+  unfolding joinRule joinReply
   join-ways P f n handle stop stores =
-      demanded P (counts (s .held) f) 7 s _ (λ _. stop 7 (omega arith)) λ a.
-      demanded P (within 1 (flowOf s f .largest) n) 8 s _ (λ _. stop 8 (omega arith)) λ b.
-      demanded P (ltb (flowOf s f .waiting) 64) 9 s _ (λ _. stop 9 (omega arith)) λ c.
-      let bounds = within-bounds 1 (flowOf s f .largest) n b in
+      let w = flowOf s f .queue in
+      let Q : Reply → Type 0 = λ reply. P (unlessRefused reply s (storeRule s f n handle)) in
+      tested Q (counts (s .held .flows) f) _ (refused 7 0) (λ _. stop 7 (omega arith)) λ a.
+      tested Q (within 1 (w .largest) n) _ (refused 8 0) (λ _. stop 8 (omega arith)) λ b.
+      tested Q (ltb (w .waiting) 64) (done []) (refused 9 0) (λ _. stop 9 (omega arith)) λ c.
+      let bounds = within-bounds 1 (w .largest) n b in
       stores (record { counts = ltb-true f _ a; some = bounds .0; short = bounds .1; room = ltb-true _ 64 c })
 
   -- a pick is Idle, refused with 10, or serves a flow of smallest tag
@@ -80,8 +86,8 @@ module _ (s : State) (S : Steady s) where
     where
       go : (b : Bool) → somethingWaits s ≡ b
           → P (cond b (demand (ltb (clockOf s) clockLimit) 10 s (serveRule s (t .flow))) (idleRule s))
-      go false e = ways .rests refl (leads (s .held .flow) (s .held .flows) .nobody e)
-      go true e = demanded P (ltb (clockOf s) clockLimit) 10 s _
+      go false e = ways .rests refl (leads (tagOf (s .held)) (waitingOf (s .held)) (s .held .flows) .nobody e)
+      go true e = tested P (ltb (clockOf s) clockLimit) _ (kept 10 s)
           (λ c. ways .refuses 10 (record { late = omega arith; ten = λ _. (refl, e, ltb-false _ clockLimit c) }))
           λ c. ways .serves refl (t .flow) (t .smallest e) (ltb-true _ clockLimit c)
 
@@ -129,8 +135,8 @@ module _ (s : State) (S : Steady s) (call : Call) (o : Outcome) (plain : Plain c
 
   -- what the reply says of flow f, where it is not behind the clock and waits at a pick
   pub call-counts : (f : ℕ) → f < s .held .flows → clockOf s ≤ viewOf s .tag f
-      → (call ≡ pick → 0 < flowOf s f .waiting) → Counts f (flowCost (flowOf s f)) s o
-  unfolding storeRule serveRule idleRule
+      → (call ≡ pick → 0 < flowOf s f .queue .waiting) → Counts f (flowCost (flowOf s f)) s o
+  unfolding storeRule serveRule idleRule put
   call-counts f l ahead waits = call-ways s S call o plain gives (Counts f (flowCost (flowOf s f)) s)
       record {
         refuses = λ number _. omega arith;
@@ -190,7 +196,7 @@ module _ (s : State) (S : Steady s) (call : Call) (o : Outcome) (plain : Plain c
 
   -- the clocks go on where the reply is not Idle
   pub call-clocks : (o .reply ≡ idle → ⊥) → Clocks s o
-  unfolding storeRule serveRule idleRule
+  unfolding storeRule serveRule idleRule put
   call-clocks = call-ways s S call o plain gives (λ o. (o .reply ≡ idle → ⊥) → Clocks s o)
       record {
         refuses = λ number _ _. omega arith;

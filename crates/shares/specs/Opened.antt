@@ -1,28 +1,29 @@
 -- An accepted opening gives a steady state.
 -- Assumes nothing.
-use mathlib.Core.Path.{_≡_, refl, ap, _∙_}
+use mathlib.Core.Path.{_≡_, refl, sym, ap, _∙_}
 use mathlib.Core.Bool.{Bool, true, false, cond}
 use mathlib.Core.List.{List, []}
 use Prim.Native.Nat.{ℕ, zero, suc, _+_, _≤_, _<_}
-use native.Mathlib.Nat.{not-suc-le-zero, zero-add}
 use native.Mathlib.Decide.{ℕ-discrete}
 use native.Mathlib.Omega.{arith}
 use lib.Dec.{leb, eqb}
 use lib.ListN.{length, getD, replicate, List·getD-eq-default}
 use borrow.Author.Tests.{leb-true, eqb-true}
-use Rattle.below.specs.Listed.{listed-at, length-listed}
 use Rattle.below.specs.Truth.{both-true}
 use Rattle.cost.specs.Cost.{within, within-bounds}
-use Rattle.flow.specs.Steps.{noFlow}
-use Rattle.flow.specs.Form.{spareFlow}
-use Rattle.flow.specs.Laws.{ranged-in, queue-in, tag-idle-in, spare-in}
-use Rattle.flow.specs.declared.Flow.{Flow}
-use Rattle.uplink.specs.Record.{blank, flowAt, sharesOf}
-use Rattle.uplink.specs.Reply.{Reply, idle, done, refused}
-use Rattle.uplink.specs.State.{State, Outcome, state, outcome, lent}
-use Rattle.uplink.specs.Formed.{Formed, FlowFormed}
-use Rattle.uplink.specs.Opening.{newFlow, newFlows, newRecord, paired, faultFrom, orElse, tableReply, openedBy}
-use Rattle.uplink.specs.Opening.{pairRule, openingRule}
+use Rattle.reply.specs.Reply.{Reply, idle, done, refused}
+use Rattle.queues.specs.Queue.{queueOf}
+use Rattle.queues.specs.Queues.{sharesOf}
+use Rattle.queues.specs.Places.{lent}
+use Rattle.queues.specs.Opening.{newQueues, paired, faultFrom, orElse, tableReply, listsReply}
+use Rattle.queues.specs.Laws.{ranged-in, queue-in, opened-at, opened-sized}
+use Rattle.tags.specs.Laws.{tag-idle-in}
+use Rattle.uplink.specs.Flow.{flowOf, spareFlow}
+use Rattle.uplink.specs.Record.{flowAt, tagOf, waitingOf, rested-at}
+use Rattle.uplink.specs.State.{State, state}
+use Rattle.uplink.specs.Formed.{Formed, FlowFormed, no-flow-spare}
+use Rattle.uplink.specs.Opening.{newRecord, openedBy, openingRule}
+use Rattle.uplink.specs.declared.Record.{Record}
 use Rattle.shares.specs.Runs.{openingIn}
 use Rattle.shares.specs.Replies.{refused-done, idle-done, Late}
 use Rattle.shares.specs.Keep.{reset-good}
@@ -35,15 +36,21 @@ InRange shares largest f = (within 1 1000 (getD shares f 0) ≡ true) × (within
 -- a table that an opening accepts
 record Acceptable (shares largest : List ℕ) : Type 0 where
   pair : paired shares largest ≡ true
-  sum : sharesOf (newFlows shares largest) (length shares) ≤ 1000
+  sum : sharesOf (newQueues shares largest) (length shares) ≤ 1000
   each : (f : ℕ) → f < length shares → InRange shares largest f
 
--- two tests that were passed on the way to a reply that is done
-both-passed : (a b : Bool) (f g : ℕ) (on : Reply) (values : List ℕ)
-    → cond a (cond b on (refused 5 f)) (refused 4 g) ≡ done values → (a ≡ true) × (b ≡ true) × (on ≡ done values)
-both-passed true true f g on values e = (refl, refl, e)
-both-passed true false f g on values e = refused-done e
-both-passed false b f g on values e = refused-done e
+-- a test was passed on the way to a reply that is done
+passed : (test : Bool) (on : Reply) (number flow : ℕ) (values : List ℕ)
+    → cond test on (refused number flow) ≡ done values → (test ≡ true) × (on ≡ done values)
+passed true on number flow values e = (refl, e)
+passed false on number flow values e = refused-done e
+
+-- the reply of an opening is that of its lists
+opened-reply : (reply : Reply) (shares largest lengths handles : List ℕ)
+    → openedBy reply shares largest lengths handles .reply ≡ reply
+opened-reply idle shares largest lengths handles = refl
+opened-reply (done values) shares largest lengths handles = refl
+opened-reply (refused number flow) shares largest lengths handles = refl
 
 module _ (shares largest : List ℕ) where
   -- where no fault is found every number is in range
@@ -52,59 +59,62 @@ module _ (shares largest : List ℕ) where
   unfolding faultFrom
   fault-none f zero values e j low high = absurd (omega arith)
   fault-none f (suc n) values e j low high =
-      let p = both-passed (within 1 1000 (getD shares f 0)) (within 1 1500 (getD largest f 0)) f f _ values e in
+      let a = passed (within 1 1000 (getD shares f 0)) _ 4 f values e in
+      let b = passed (within 1 1500 (getD largest f 0)) _ 5 f values (a .1) in
       elim (ℕ-discrete j f) as (λ _. InRange shares largest j) [
-        | yes q ↦ rw q (p .0, p .1)
-        | no q ↦ fault-none (suc f) n values (p .2) j (omega arith) (omega arith)
+        | yes q ↦ rw q (a .0, b .0)
+        | no q ↦ fault-none (suc f) n values (b .1) j (omega arith) (omega arith)
       ]
 
   -- a pair of lists whose reply is done is acceptable
   table-done : paired shares largest ≡ true → tableReply shares largest ≡ done [] → Acceptable shares largest
   unfolding tableReply
-  table-done p e = go (faultFrom shares largest 0 (length shares)) refl
-      (leb (sharesOf (newFlows shares largest) (length shares)) 1000) refl e
+  table-done p e = go (faultFrom shares largest 0 (length shares)) refl e
     where
+      test : Bool
+      test = leb (sharesOf (newQueues shares largest) (length shares)) 1000
+
       go : (fault : Reply) → faultFrom shares largest 0 (length shares) ≡ fault
-          → (b : Bool) → leb (sharesOf (newFlows shares largest) (length shares)) 1000 ≡ b
-          → orElse fault (cond b (done []) (refused 6 0)) ≡ done [] → Acceptable shares largest
-      go idle q b t e = idle-done e
-      go (refused number flow) q b t e = refused-done e
-      go (done values) q false t e = refused-done e
-      go (done values) q true t e =
+          → orElse fault (cond test (done []) (refused 6 0)) ≡ done [] → Acceptable shares largest
+      go idle q e = idle-done e
+      go (refused number flow) q e = refused-done e
+      go (done values) q e =
           record {
             pair = p;
-            sum = leb-true _ 1000 t;
+            sum = leb-true _ 1000 (passed test (done []) 6 0 [] e .0);
             each = λ f l. fault-none 0 (length shares) values q f (omega arith) (omega arith);
           }
 
-  -- the state that an accepted opening gives
+  -- the record and the state that an accepted opening gives
+  abbrev new : Record
+  new = newRecord shares largest
+
   abbrev opened : State
-  opened = state (newRecord shares largest) (replicate 4096 0) (replicate 4096 0)
+  opened = state new (replicate 4096 0) (replicate 4096 0)
 
   -- an accepted opening has an acceptable table, and gives that state
   accepted-out : (lengths handles : List ℕ) → openingRule shares largest lengths handles .reply ≡ done []
       → Acceptable shares largest × (openingRule shares largest lengths handles .state ≡ opened)
-  unfolding openingRule pairRule
+  unfolding openingRule listsReply
   accepted-out lengths handles e =
-      go (lent lengths handles) (paired shares largest) refl (tableReply shares largest) refl e
-    where
-      given : Bool → Bool → Reply → Outcome
-      given a b reply =
-          cond a (cond b (openedBy reply shares largest lengths handles) (outcome (refused 3 0) blank lengths handles))
-          (outcome (refused 1 0) blank lengths handles)
-
-      go : (a b : Bool) → paired shares largest ≡ b → (reply : Reply) → tableReply shares largest ≡ reply
-          → given a b reply .reply ≡ done [] → Acceptable shares largest × (given a b reply .state ≡ opened)
-      go false b p reply t e = refused-done e
-      go true false p reply t e = refused-done e
-      go true true p idle t e = idle-done e
-      go true true p (refused number flow) t e = refused-done e
-      go true true p (done values) t e = (table-done p (t ∙ e), refl)
+      let reply = listsReply shares largest lengths handles in
+      let all : reply ≡ done [] = sym (opened-reply reply shares largest lengths handles) ∙ e in
+      let a = passed (lent lengths handles) _ 1 0 [] all in
+      let b = passed (paired shares largest) _ 3 0 [] (a .1) in
+      (table-done (b .0) (b .1), ap (λ given. openedBy given shares largest lengths handles .state) all)
 
   -- flow f as it opens
-  opened-flow : (f : ℕ) → f < 64 → flowAt (newRecord shares largest) f ≡ newFlow (getD shares f 0) (getD largest f 0)
-  unfolding newRecord newFlows
-  opened-flow f l = rw (listed-at (λ i. newFlow (getD shares i 0) (getD largest i 0)) 0 64 f noFlow l, zero-add f)
+  opened-flow : (f : ℕ) → f < 64 → flowAt new f ≡ flowOf 0 (queueOf (getD shares f 0) (getD largest f 0) 0 0)
+  unfolding newRecord
+  opened-flow f l = rested-at new f ∙ ap (flowOf 0) (opened-at shares largest f l)
+
+  -- it has no tag
+  opened-tag : (f : ℕ) → f < 64 → tagOf new f ≡ 0
+  opened-tag f l = ap (λ x. x .tag .0) (opened-flow f l)
+
+  -- and nothing waits in it
+  opened-waiting : (f : ℕ) → f < 64 → waitingOf new f ≡ 0
+  opened-waiting f l = ap (λ x. x .queue .waiting) (opened-flow f l)
 
   module _ (A : Acceptable shares largest) where
     -- the lists are of one length, 1 to 64
@@ -115,35 +125,32 @@ module _ (shares largest : List ℕ) where
         (eqb-true _ _ (p .0), size .0, size .1)
 
     -- every flow of the table is in form
-    opened-each : (f : ℕ) → f < length shares → FlowFormed (newRecord shares largest) (replicate 4096 0) f
+    opened-each : (f : ℕ) → f < length shares → FlowFormed new (replicate 4096 0) f
     unfolding newRecord
     opened-each f l =
+        let inside : f < 64 = omega (arith, opened-size) in
         record {
-          range = rw (opened-flow f inside) (ranged-in w (omega (
+          range = rw (opened-at shares largest f inside) (ranged-in _ (omega (
             arith,
             within-bounds 1 1000 (getD shares f 0) (A .each f l .0),
             within-bounds 1 1500 (getD largest f 0) (A .each f l .1),
           )));
-          queue = rw (opened-flow f inside) (queue-in f (replicate 4096 0) w λ k h. absurd (not-suc-le-zero h));
-          tag = rw (opened-flow f inside) (tag-idle-in 0 (newRecord shares largest .width) w refl (omega arith));
+          queue = queue-in f (replicate 4096 0) (flowAt new f .queue)
+              λ k h. absurd (omega (arith, opened-waiting f inside));
+          tag = tag-idle-in 0 (new .width) (tagOf new f) (waitingOf new f) (opened-waiting f inside)
+              (omega (arith, opened-tag f inside));
         }
-      where
-        w : Flow
-        w = newFlow (getD shares f 0) (getD largest f 0)
-
-        inside : f < 64
-        inside = omega (arith, opened-size)
 
     -- beyond the lists both numbers are 0
-    opened-rest : (f : ℕ) → length shares ≤ f → f < 64 → spareFlow (flowAt (newRecord shares largest) f) ≡ true
+    opened-rest : (f : ℕ) → length shares ≤ f → f < 64 → spareFlow (flowAt new f) ≡ true
     opened-rest f l b = rw (
       opened-flow f b,
       List·getD-eq-default shares 0 l,
       List·getD-eq-default largest 0 {n = f} (omega (arith, opened-size)),
-    ) spare-in
+    ) no-flow-spare
 
     -- the form holds
-    opened-form : Formed (newRecord shares largest) (replicate 4096 0)
+    opened-form : Formed new (replicate 4096 0)
     unfolding newRecord
     opened-form =
         record {
@@ -157,28 +164,18 @@ module _ (shares largest : List ℕ) where
           rest = opened-rest;
         }
 
-    -- it has its 64 rows
-    opened-rows : length (newRecord shares largest .flow) ≡ 64
-    unfolding newRecord newFlows
-    opened-rows = length-listed (λ i. newFlow (getD shares i 0) (getD largest i 0)) 0 64
-
-    -- a field that opens with 0
-    opened-zero : (field : Flow → ℕ) → ((share most : ℕ) → field (newFlow share most) ≡ 0)
-        → (f : ℕ) → f < newRecord shares largest .flows → field (flowAt (newRecord shares largest) f) ≡ 0
-    opened-zero field e f l =
-        ap field (opened-flow f (omega (arith, opened-form .few))) ∙ e (getD shares f 0) (getD largest f 0)
-
     -- the state is steady
     opened-steady : Steady opened
+    unfolding newRecord
     opened-steady =
         record {
-          rows = opened-rows;
+          rows = record { tags = refl; queues = opened-sized shares largest };
           lengths-lent = refl;
           handles-lent = refl;
           form = opened-form;
           good = reset-good (tableOf opened)
-              (opened-zero (λ w. w .tag .0) λ share most. refl)
-              (λ f l. charge-idle opened f (opened-zero (λ w. w .waiting) (λ share most. refl) f l));
+              (λ f l. opened-tag f (omega (arith, opened-size)))
+              (λ f l. charge-idle opened f (opened-waiting f (omega (arith, opened-size))));
         }
 
 module _ (s : State) (shares largest : List ℕ) (accepted : openingIn s shares largest .reply ≡ done []) where
@@ -192,42 +189,38 @@ module _ (s : State) (shares largest : List ℕ) (accepted : openingIn s shares 
   unfolding newRecord
   accepted-clocks = rw (accepted-out shares largest (s .lengths) (s .handles) accepted .1) (refl, refl)
 
+-- a test that is refused with neither 1 nor 2, on the way to a reply that is not
+late-on : (test : Bool) (on : Reply) (number flow : ℕ) → 3 ≤ number → Late on
+    → Late (cond test on (refused number flow))
+late-on true on number flow h late = late
+late-on false on number flow h late = omega arith
+
 -- no fault has number 1 or 2
 fault-late : (shares largest : List ℕ) (f n : ℕ) → Late (faultFrom shares largest f n)
 unfolding faultFrom
 fault-late shares largest f zero = omega arith
 fault-late shares largest f (suc n) =
-    go (within 1 1000 (getD shares f 0)) (within 1 1500 (getD largest f 0)) _ (fault-late shares largest (suc f) n)
-  where
-    go : (a b : Bool) (on : Reply) → Late on → Late (cond a (cond b on (refused 5 f)) (refused 4 f))
-    go true true on late = late
-    go true false on late = omega arith
-    go false b on late = omega arith
+    let rest = faultFrom shares largest (suc f) n in
+    let most = within 1 1500 (getD largest f 0) in
+    late-on (within 1 1000 (getD shares f 0)) (cond most rest (refused 5 f)) 4 f (omega arith)
+    (late-on most rest 5 f (omega arith) (fault-late shares largest (suc f) n))
 
 -- nor has a table's reply
 table-late : (shares largest : List ℕ) → Late (tableReply shares largest)
 unfolding tableReply
 table-late shares largest =
     go (faultFrom shares largest 0 (length shares)) (fault-late shares largest 0 (length shares))
-    (leb (sharesOf (newFlows shares largest) (length shares)) 1000)
+    (leb (sharesOf (newQueues shares largest) (length shares)) 1000)
   where
     go : (fault : Reply) → Late fault → (b : Bool) → Late (orElse fault (cond b (done []) (refused 6 0)))
     go idle late b = omega arith
     go (refused number flow) late b = late
-    go (done values) late true = omega arith
-    go (done values) late false = omega arith
+    go (done values) late b = late-on b (done []) 6 0 (omega arith) (omega arith)
 
 -- so an opening that is lent memories of 4,096 places is not refused with 1 or 2
 pub opening-late : (s : State) (shares largest : List ℕ) → lent (s .lengths) (s .handles) ≡ true
     → Late (openingIn s shares largest .reply)
-unfolding openingRule pairRule
-opening-late s shares largest e = rw e
-    (go (paired shares largest) (tableReply shares largest) (table-late shares largest))
-  where
-    go : (a : Bool) (reply : Reply) → Late reply
-        → Late (cond a (openedBy reply shares largest (s .lengths) (s .handles))
-        (outcome (refused 3 0) blank (s .lengths) (s .handles)) .reply)
-    go false reply late = omega arith
-    go true idle late = late
-    go true (refused number flow) late = late
-    go true (done values) late = late
+unfolding openingRule listsReply
+opening-late s shares largest e =
+    rw (opened-reply (listsReply shares largest (s .lengths) (s .handles)) shares largest (s .lengths) (s .handles), e)
+    (late-on (paired shares largest) (tableReply shares largest) 3 0 (omega arith) (table-late shares largest))

@@ -1,7 +1,7 @@
 -- One flow put anew, and with it the length and the handle of one of its packets, the clock and the link time:
 -- what a taken arrival and a served pick come to. Where the flow keeps its form and the backlog is kept, all is kept.
 -- Assumes nothing.
-use mathlib.Core.Path.{_≡_, ap, fun-ext, _∙_}
+use mathlib.Core.Path.{_≡_, refl, ap, fun-ext, _∙_}
 use mathlib.Core.Logic.{_≢_}
 use mathlib.Core.Bool.{true}
 use mathlib.Core.List.{List}
@@ -9,17 +9,20 @@ use Prim.Native.Nat.{ℕ, _≤_, _<_}
 use native.Mathlib.Decide.{ℕ-discrete}
 use native.Mathlib.Omega.{arith}
 use lib.ListN.{getD, set, length-set}
-use lib.Seq.{getD-set-same, getD-set-other}
+use lib.Seq.{getD-set-other}
 use borrow.Author.Tests.{ne-eqb}
 use Rattle.below.specs.Below.{sumBelow-same, mostBelow-same}
-use Rattle.flow.specs.Steps.{noFlow, placeOf, chargeOf}
-use Rattle.flow.specs.Form.{ranged, queueFormed}
-use Rattle.flow.specs.Laws.{queue-at, queue-in, place-other}
-use Rattle.flow.specs.declared.Flow.{Flow}
-use Rattle.uplink.specs.Record.{sharesOf, widthOf, moved}
+use Rattle.cost.specs.Charge.{chargeOf}
+use Rattle.queues.specs.Queue.{placeOf}
+use Rattle.queues.specs.Queues.{sharesOf, widthOf}
+use Rattle.queues.specs.Form.{ranged, queueFormed}
+use Rattle.queues.specs.Laws.{queue-at, queue-in, place-other}
+use Rattle.uplink.specs.Flow.{Flow}
+use Rattle.uplink.specs.Record.{moved, put, Rows, put-here, put-else, put-rows}
 use Rattle.uplink.specs.State.{State, state}
 use Rattle.uplink.specs.Form.{clockEnd}
 use Rattle.uplink.specs.Formed.{Formed}
+use Rattle.uplink.specs.declared.Record.{Record}
 use Rattle.shares.specs.Bridge.{flowOf, tableWith, tableOf, frontCharge, viewOf, Steady, charge-idle, table-sound}
 use Rattle.shares.specs.Bridge.{tags-formed}
 use Rattle.shares.specs.Keep.{Good, Change}
@@ -36,12 +39,12 @@ pub record Put : Type 0 where
 
 -- the place of that packet
 abbrev pub putPlace : State → Put → ℕ
-putPlace s p = placeOf (p .index) (flowOf s (p .index) .first) (p .number)
+putPlace s p = placeOf (p .index) (flowOf s (p .index) .queue .first) (p .number)
 
 -- the state after it
-abbrev pub put : State → Put → State
-put s p =
-    state (moved (s .held) (p .clock) (p .link) (set (s .held .flow) (p .index) (p .flow)))
+abbrev pub putState : State → Put → State
+putState s p =
+    state (put (moved (s .held) (p .clock) (p .link)) (p .index) (p .flow))
     (set (s .lengths) (putPlace s p) (p .bytes))
     (set (s .handles) (putPlace s p) (p .handle))
 
@@ -50,9 +53,12 @@ abbrev pub lengthIn : List ℕ → ℕ → ℕ → ℕ → ℕ
 lengthIn lengths f first k = getD lengths (placeOf f first k) 0
 
 module _ (s : State) (p : Put) where
-  -- the state after it, the flow's number and the flow
+  -- the state after it, the record with its clocks, the flow's number and the flow
   abbrev next : State
-  next = put s p
+  next = putState s p
+
+  abbrev r : Record
+  r = moved (s .held) (p .clock) (p .link)
 
   abbrev f : ℕ
   f = p .index
@@ -60,111 +66,104 @@ module _ (s : State) (p : Put) where
   abbrev w : Flow
   w = p .flow
 
-  -- other flows stay
-  put-else : (j : ℕ) → j ≢ f → flowOf next j ≡ flowOf s j
-  put-else j q = getD-set-other (s .held .flow) f j w noFlow q
-
-  -- and so do their packets
+  -- the packets of other flows stay
   place-else : (j first i : ℕ) → j ≢ f → lengthIn (next .lengths) j first i ≡ lengthIn (s .lengths) j first i
   place-else j first i q = getD-set-other (s .lengths) _ _ (p .bytes) 0
-      (place-other j f first (flowOf s f .first) i (p .number) q)
+      (place-other j f first (flowOf s f .queue .first) i (p .number) q)
 
-  -- and the charges of their front packets
+  -- and so do the charges of their front packets
   charge-else : (j : ℕ) → j ≢ f → frontCharge next j ≡ frontCharge s j
   unfolding frontCharge
-  charge-else j q = rw (put-else j q, place-else j (flowOf s j .first) 0 q)
+  charge-else j q = let same = put-else r f j w q in
+      rw (ap (λ x. x .queue .waiting) same, ap (λ x. x .queue .first) same, place-else j (flowOf s j .queue .first) 0 q)
 
   module _ (S : Steady s) (l : f < s .held .flows) where
+    -- the record has its 64 rows
+    rows : Rows r
+    rows = record { tags = S .rows .tags; queues = S .rows .queues }
+
     -- flow f is the new one
     put-at : flowOf next f ≡ w
-    put-at = getD-set-same (s .held .flow) f w noFlow (omega (arith, S .rows, S .form .few))
+    put-at = put-here r f w rows (omega (arith, S .form .few))
+
+    -- what holds of flow f, and held of every other, holds of each
+    put-each : (P : ℕ → Flow → Type 0) → P f w → ((j : ℕ) → j ≢ f → P j (flowOf s j)) → (j : ℕ) → P j (flowOf next j)
+    put-each P here else j = elim (ℕ-discrete j f) as (λ _. P j (flowOf next j)) [
+      | yes q ↦ rw (q, put-at) here
+      | no q ↦ rw (put-else r f j w q) (else j q)
+    ]
 
     -- the charge of its new front packet
-    pub put-charge : 0 < w .waiting → frontCharge next f ≡ chargeOf (lengthIn (next .lengths) f (w .first) 0)
+    pub put-charge : 0 < w .queue .waiting
+        → frontCharge next f ≡ chargeOf (lengthIn (next .lengths) f (w .queue .first) 0)
     unfolding frontCharge
-    put-charge e = rw (put-at, ne-eqb (w .waiting) 0 (λ z. omega arith))
+    put-charge e = cc (put-at, ne-eqb (w .queue .waiting) 0 (λ z. omega arith))
 
     -- or that it is idle
-    pub put-idle : w .waiting ≡ 0 → frontCharge next f ≡ 0
-    put-idle e = charge-idle next f (rw put-at e)
+    pub put-idle : w .queue .waiting ≡ 0 → frontCharge next f ≡ 0
+    put-idle e = charge-idle next f (cc put-at)
 
     -- only flow f changes
     pub put-change : {T m : ℕ} → w .tag .0 ≡ T → frontCharge next f ≡ m → Change f T m (viewOf s) (viewOf next)
     put-change tag charge =
         record {
-          tag-at = ap (λ (x : Flow). x .tag .0) put-at ∙ tag;
+          tag-at = cc put-at;
           charge-at = charge;
-          tag-else = λ j q. ap (λ (x : Flow). x .tag .0) (put-else j q);
+          tag-else = λ j q. ap (λ x. x .tag .0) (put-else r f j w q);
           charge-else = charge-else;
         }
 
-    -- a field that flow f keeps is kept by all
-    put-field : (field : Flow → ℕ) → field w ≡ field (flowOf s f) → (j : ℕ) → field (flowOf next j) ≡ field (flowOf s j)
-    put-field field e j = elim (ℕ-discrete j f) as (λ _. field (flowOf next j) ≡ field (flowOf s j)) [
-      | yes q ↦ rw (q, put-at) e
-      | no q ↦ rw (put-else j q)
-    ]
+    module _ (share : w .queue .share ≡ flowOf s f .queue .share)
+        (largest : w .queue .largest ≡ flowOf s f .queue .largest) where
+      -- every flow keeps its share and its largest packet
+      put-share : (j : ℕ) → flowOf next j .queue .share ≡ flowOf s j .queue .share
+      put-share = put-each (λ j x. x .queue .share ≡ flowOf s j .queue .share) share λ j _. refl
 
-    module _ (share : w .share ≡ flowOf s f .share) (largest : w .largest ≡ flowOf s f .largest) where
+      put-largest : (j : ℕ) → flowOf next j .queue .largest ≡ flowOf s j .queue .largest
+      put-largest = put-each (λ j x. x .queue .largest ≡ flowOf s j .queue .largest) largest λ j _. refl
+
       -- the table stays
       pub put-table : tableOf next ≡ tableOf s
-      put-table = ap (tableWith (s .held .flows) (s .held .width)) (fun-ext (put-field (λ x. x .share) share))
+      unfolding put
+      put-table = ap (tableWith (s .held .flows) (s .held .width)) (fun-ext put-share)
 
-      -- and so do the sum of the shares and Δ
-      put-shares : sharesOf (next .held .flow) (s .held .flows) ≡ sharesOf (s .held .flow) (s .held .flows)
-      unfolding sharesOf
-      put-shares = sumBelow-same _ _ (s .held .flows) λ j _. put-field (λ x. x .share) share j
-
-      put-width : widthOf (next .held .flow) (s .held .flows) ≡ widthOf (s .held .flow) (s .held .flows)
-      unfolding widthOf
-      put-width = mostBelow-same _ _ (s .held .flows) λ j _.
-          rw (put-field (λ x. x .share) share j, put-field (λ x. x .largest) largest j)
-
-      module _ (range : ranged w ≡ true) (queue : queueFormed f (next .lengths) w ≡ true) where
-        -- every flow keeps its ranges and its queue's form
-        put-range : (j : ℕ) → j < s .held .flows → ranged (flowOf next j) ≡ true
-        put-range j b = elim (ℕ-discrete j f) as (λ _. ranged (flowOf next j) ≡ true) [
-          | yes q ↦ rw (q, put-at) range
-          | no q ↦ rw (put-else j q) (S .form .each j b .range)
-        ]
-
-        put-queue : (j : ℕ) → j < s .held .flows → queueFormed j (next .lengths) (flowOf next j) ≡ true
-        put-queue j b = elim (ℕ-discrete j f) as (λ _. queueFormed j (next .lengths) (flowOf next j) ≡ true) [
-          | yes q ↦ rw (q, put-at) queue
-          | no q ↦ rw (put-else j q) (queue-in j (next .lengths) v λ i e.
-              rw (place-else j (v .first) i q) (queue-at j (s .lengths) v (S .form .each j b .queue) i e))
-        ]
-          where
-            v : Flow
-            v = flowOf s j
+      module _ (range : ranged (w .queue) ≡ true) (queue : queueFormed f (next .lengths) (w .queue) ≡ true) where
+        -- every queue keeps its form
+        put-queue : (j : ℕ) → j < s .held .flows → queueFormed j (next .lengths) (flowOf next j .queue) ≡ true
+        put-queue = put-each (λ j x. j < s .held .flows → queueFormed j (next .lengths) (x .queue) ≡ true) (λ _. queue)
+            λ j q b. let v = flowOf s j .queue in queue-in j (next .lengths) v λ i e.
+            rw (place-else j (v .first) i q) (queue-at j (s .lengths) v (S .form .each j b .queue) i e)
 
         module _ (good : Good (tableOf s) (p .clock) (viewOf next)) (low : p .link ≤ p .clock)
             (high : p .clock < clockEnd) where
           -- the form is kept where flow f keeps it
           put-formed : Formed (next .held) (next .lengths)
+          unfolding put sharesOf widthOf
           put-formed =
               record {
                 some = S .form .some;
                 few = S .form .few;
-                shares = rw put-shares (S .form .shares);
-                width = rw put-width (S .form .width);
+                shares = rw (sumBelow-same _ _ (s .held .flows) λ j _. put-share j) (S .form .shares);
+                width = mostBelow-same _ _ (s .held .flows) (λ j _. rw (put-share j, put-largest j)) ∙ S .form .width;
                 each = λ j b.
                     record {
-                      range = put-range j b;
+                      range = put-each (λ j x. j < s .held .flows → ranged (x .queue) ≡ true) (λ _. range)
+                          (λ j _ b. S .form .each j b .range) j b;
                       queue = put-queue j b;
                       tag = tags-formed next (rw put-table (table-sound s (S .form))) (rw put-table good) j b
                           (put-queue j b);
                     };
                 link = low;
                 clock = high;
-                rest = λ j b e. rw (put-else j λ q. omega arith) (S .form .rest j b e);
+                rest = λ j b e. rw (put-else r f j w λ q. omega arith) (S .form .rest j b e);
               }
 
           -- and so is all else
           pub put-steady : Steady next
+          unfolding put
           put-steady =
               record {
-                rows = length-set (s .held .flow) f w ∙ S .rows;
+                rows = put-rows r f w rows;
                 lengths-lent = length-set (s .lengths) _ (p .bytes) ∙ S .lengths-lent;
                 handles-lent = length-set (s .handles) _ (p .handle) ∙ S .handles-lent;
                 form = put-formed;

@@ -4,7 +4,7 @@ use mathlib.Core.Path.{_≡_}
 use mathlib.Core.List.{List}
 use Prim.Native.Nat.{ℕ}
 use native.Mathlib.Omega.{arith}
-use Rattle.uplink.specs.Reply.{Reply, idle, done, refused}
+use Rattle.reply.specs.Reply.{Reply, idle, done, refused}
 use Rattle.shares.specs.Runs.{refusalIn}
 
 -- a refusal is not done

@@ -3,12 +3,12 @@
 use mathlib.Core.Path.{_≡_, refl}
 use mathlib.Core.List.{List, [], _∷_}
 use Prim.Native.Nat.{ℕ, _+_, _*_, _≤_, _<_}
-use Rattle.uplink.specs.Record.{flowAt, flowCost}
-use Rattle.uplink.specs.Reply.{done, refused}
+use Rattle.reply.specs.Reply.{done, refused}
+use Rattle.tags.specs.Chosen.{leads}
+use Rattle.uplink.specs.Flow.{flowCost}
+use Rattle.uplink.specs.Record.{flowAt, tagOf, waitingOf}
 use Rattle.uplink.specs.State.{State}
-use Rattle.uplink.specs.Choice.{leadOf}
-use Rattle.uplink.specs.Chosen.{leads}
-use Rattle.uplink.specs.Pick.{pickRule, chooseRule}
+use Rattle.uplink.specs.Pick.{leadOf, pickRule, chooseRule}
 use Rattle.uplink.specs.Calls.{Call, opening, arrival, pick, afterCall}
 use Rattle.shares.specs.Runs.{takeRule, Taken, Gives, NoOpening, Stretch, endOf, runOf, Carried, Restarted}
 use Rattle.shares.specs.Runs.{picked, pickedOf, leapsOf, WaitsAtPicks, NeverIdle}
@@ -20,8 +20,8 @@ pub rule-taken : (s : State) → Taken s (pickRule s)
 unfolding chooseRule takeRule
 rule-taken s =
     record {
-      flow = leadOf (s .held .flow) (s .held .flows) .flow;
-      smallest = leads (s .held .flow) (s .held .flows) .smallest;
+      flow = leadOf (s .held) .flow;
+      smallest = leads (tagOf (s .held)) (waitingOf (s .held)) (s .held .flows) .smallest;
       taken = refl;
     }
 

@@ -8,20 +8,20 @@ use mathlib.Core.List.{List, [], _∷_}
 use Prim.Native.Nat.{ℕ, _+_, _<_}
 use lib.Dec.{eqb, ltb}
 use lib.ListN.{getD}
-use Rattle.flow.specs.Steps.{chargeOf}
-use Rattle.uplink.specs.Record.{flowAt}
-use Rattle.uplink.specs.Reply.{Reply, idle, done, refused}
+use Rattle.cost.specs.Charge.{chargeOf}
+use Rattle.reply.specs.Reply.{Reply, idle, done, refused}
+use Rattle.tags.specs.Choice.{Smallest}
+use Rattle.uplink.specs.Record.{tagOf, waitingOf}
 use Rattle.uplink.specs.State.{State, Outcome, demand}
 use Rattle.uplink.specs.Form.{checked}
-use Rattle.uplink.specs.Choice.{Smallest, leadOf}
 use Rattle.uplink.specs.Opening.{openingRule}
 use Rattle.uplink.specs.Arrival.{arrivalRule}
-use Rattle.uplink.specs.Pick.{clockLimit, serveRule, idleRule}
+use Rattle.uplink.specs.Pick.{clockLimit, leadOf, serveRule, idleRule}
 use Rattle.uplink.specs.Calls.{Call, opening, arrival, pick, afterCall}
 
 -- something waits
 abbrev pub somethingWaits : State → Bool
-somethingWaits s = leadOf (s .held .flow) (s .held .flows) .waits
+somethingWaits s = leadOf (s .held) .waits
 
 -- document 01's pick, but that flow f is taken, whoever leads
 unfoldable pub takeRule : State → ℕ → Outcome
@@ -31,7 +31,7 @@ takeRule s f =
 -- a pick that takes a flow of smallest tag
 pub record Taken (s : State) (o : Outcome) : Type 0 where
   pub flow : ℕ
-  pub smallest : somethingWaits s ≡ true → Smallest (s .held .flow) (s .held .flows) flow
+  pub smallest : somethingWaits s ≡ true → Smallest (tagOf (s .held)) (waitingOf (s .held)) (s .held .flows) flow
   pub taken : o ≡ takeRule s flow
 
 -- what a call may give, whatever the tie rule
@@ -135,7 +135,7 @@ leapsOf = total (valueIn 4)
 abbrev pub WaitsAtPicks : ℕ → State → List Event → Type 0
 WaitsAtPicks f s [] = Unit {0}
 WaitsAtPicks f s (x ∷ xs) =
-    (x .call ≡ pick → 0 < flowAt (s .held) f .waiting) × WaitsAtPicks f (x .outcome .state) xs
+    (x .call ≡ pick → 0 < waitingOf (s .held) f) × WaitsAtPicks f (x .outcome .state) xs
 
 -- no reply is Idle
 abbrev pub NeverIdle : List Event → Type 0

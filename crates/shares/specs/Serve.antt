@@ -9,22 +9,24 @@ use native.Mathlib.Omega.{arith}
 use lib.Dec.{eqb}
 use lib.Seq.{getD-set-other}
 use borrow.Author.Tests.{eq-eqb, ne-eqb, lt-ltb, le-ltb, ltb-true}
-use Rattle.flow.specs.Steps.{placeOf, chargeOf, chargeTicks, frontTag, linkTicks, leaps, servedFlow, ticks}
-use Rattle.flow.specs.Form.{ranged, queueFormed}
-use Rattle.flow.specs.Laws.{Ranged, ranged-out, ranged-in, queue-at, queue-in, tag-at-most, place-apart, leap-low}
-use Rattle.flow.specs.Laws.{leap-high, leap-near}
-use Rattle.flow.specs.declared.Flow.{Flow}
-use Rattle.uplink.specs.Record.{flowCost}
+use Rattle.cost.specs.Charge.{chargeOf, chargeTicks, linkTicks}
+use Rattle.queues.specs.Queue.{placeOf}
+use Rattle.queues.specs.Form.{ranged, queueFormed}
+use Rattle.queues.specs.Laws.{Ranged, ranged-out, ranged-in, queue-at, queue-in, place-apart}
+use Rattle.tags.specs.Ticks.{ticks, leaps, frontTag}
+use Rattle.tags.specs.Choice.{Smallest}
+use Rattle.tags.specs.Laws.{tag-at-most, leap-low, leap-high, leap-near}
+use Rattle.uplink.specs.Flow.{Flow, flowCost, servedFlow}
+use Rattle.uplink.specs.Record.{tagOf, waitingOf}
 use Rattle.uplink.specs.State.{State}
 use Rattle.uplink.specs.Form.{clockEnd}
 use Rattle.uplink.specs.Formed.{FlowFormed, width-most}
-use Rattle.uplink.specs.Choice.{Smallest}
-use Rattle.uplink.specs.Pick.{clockLimit, frontLength, behindLength, clockLeapt, clockAfter, linkAfter}
+use Rattle.uplink.specs.Pick.{clockLimit, frontLength, behindLength, clockLeapt, clockAfter, linkOn}
 use Rattle.shares.specs.Keep.{Sound, View, Good, Change, unchanged, change-again, front-good, leap-good, in-time}
 use Rattle.shares.specs.Keep.{serve-good}
 use Rattle.shares.specs.Bridge.{flowOf, clockOf, tableOf, viewOf, Steady, charge-waits, waits-charge, charge-some}
 use Rattle.shares.specs.Bridge.{table-sound, packet-fits}
-use Rattle.shares.specs.Put.{Put, put, lengthIn, put-charge, put-idle, put-change, put-table, put-steady}
+use Rattle.shares.specs.Put.{Put, putState, lengthIn, put-charge, put-idle, put-change, put-table, put-steady}
 use Rattle.shares.specs.Start.{MovesOn, StaysAhead, same-start, moves-then, front-start, serve-start}
 
 module _ (s : State) (f : ℕ) where
@@ -44,13 +46,13 @@ module _ (s : State) (f : ℕ) where
         bytes = 0;
         handle = 0;
         clock = clockAfter s f;
-        link = linkAfter s f;
+        link = linkOn s f;
       }
 
   abbrev after : State
-  after = put s served
+  after = putState s served
 
-  module _ (S : Steady s) (small : Smallest (s .held .flow) (s .held .flows) f) where
+  module _ (S : Steady s) (small : Smallest (tagOf (s .held)) (waitingOf (s .held)) (s .held .flows) f) where
     -- the shares pay for their bytes
     sound : Sound (tableOf s)
     sound = table-sound s (S .form)
@@ -59,30 +61,30 @@ module _ (s : State) (f : ℕ) where
     form : FlowFormed (s .held) (s .lengths) f
     form = S .form .each f (small .counts)
 
-    range : Ranged old
-    range = ranged-out old (form .range)
+    range : Ranged (old .queue)
+    range = ranged-out (old .queue) (form .range)
 
     -- the packets behind the front one stay
-    served-else : (k : ℕ) → 0 < k → k < old .waiting
-        → lengthIn (after .lengths) f (old .first) k ≡ lengthIn (s .lengths) f (old .first) k
+    served-else : (k : ℕ) → 0 < k → k < old .queue .waiting
+        → lengthIn (after .lengths) f (old .queue .first) k ≡ lengthIn (s .lengths) f (old .queue .first) k
     served-else k h b = getD-set-other (s .lengths) _ _ 0 0
-        (place-apart f (old .first) k 0
+        (place-apart f (old .queue .first) k 0
         (range .first-below) (omega (arith, range .waiting-most)) (omega arith) (λ e. omega arith))
 
     -- "first goes on by one, 63 to 0": each packet has one number less
-    place-on : (k : ℕ) → placeOf f ((old .first + 1) % 64) k ≡ placeOf f (old .first) (k + 1)
+    place-on : (k : ℕ) → placeOf f ((old .queue .first + 1) % 64) k ≡ placeOf f (old .queue .first) (k + 1)
     place-on k = omega arith
 
     -- the flow keeps its form
-    serve-range : ranged new ≡ true
+    serve-range : ranged (new .queue) ≡ true
     unfolding servedFlow
-    serve-range = let R = range in ranged-in new (omega arith)
+    serve-range = let R = range in ranged-in (new .queue) (omega arith)
 
-    serve-queue : queueFormed f (after .lengths) new ≡ true
+    serve-queue : queueFormed f (after .lengths) (new .queue) ≡ true
     unfolding servedFlow
-    serve-queue = queue-in f (after .lengths) new λ k h.
+    serve-queue = queue-in f (after .lengths) (new .queue) λ k h.
         rw (place-on k, served-else (k + 1) (omega arith) (omega arith))
-        (queue-at f (s .lengths) old (form .queue) (k + 1) (omega arith))
+        (queue-at f (s .lengths) (old .queue) (form .queue) (k + 1) (omega arith))
 
     -- the front packet's charge
     front-charge : viewOf s .charge f ≡ chargeOf (frontLength s f)
@@ -130,32 +132,32 @@ module _ (s : State) (f : ℕ) where
     middle-good = rw front-charge at
         (serve-good sound (clockLeapt (s .held) f) f (small .counts) leapt-good middle-change least
         (leap-near (clockOf s) (s .held .width) (old .tag .0)
-        (tag-at-most (clockOf s) (s .held .width) old (form .tag))))
+        (tag-at-most (clockOf s) (s .held .width) (old .tag .0) (old .queue .waiting) (form .tag))))
 
     -- front: the packet behind comes to the front, where there is one
-    serve-front : 1 < old .waiting
+    serve-front : 1 < old .queue .waiting
         → Change f (frontTag (old .tag .0) (clockAfter s f) (flowCost old) (behindLength s f))
         (chargeOf (behindLength s f)) middle (viewOf after)
     unfolding servedFlow
     serve-front h = change-again middle-change (put-change s served S (small .counts)
-        (rw (lt-ltb 1 (old .waiting) h))
+        (rw (lt-ltb 1 (old .queue .waiting) h))
         (put-charge s served S (small .counts) (omega arith) ∙ rw (place-on 0, served-else 1 (omega arith) h)))
 
     -- and else the flow is idle
-    serve-last : old .waiting ≤ 1 → viewOf after ≡ middle
+    serve-last : old .queue .waiting ≤ 1 → viewOf after ≡ middle
     unfolding servedFlow
     serve-last h = unchanged (change-again middle-change (put-change s served S (small .counts)
-        (rw (le-ltb 1 (old .waiting) h))
+        (rw (le-ltb 1 (old .queue .waiting) h))
         (put-idle s served S (small .counts) (omega arith) ∙ sym (middle-change .charge-at))))
 
     -- the packet behind is charged no more than Δ
-    behind-fits : 1 < old .waiting → chargeTicks (flowCost old) (behindLength s f) ≤ s .held .width
+    behind-fits : 1 < old .queue .waiting → chargeTicks (flowCost old) (behindLength s f) ≤ s .held .width
     behind-fits h = packet-fits s (S .form) f (behindLength s f) (small .counts)
-        (queue-at f (s .lengths) old (form .queue) 1 h .1)
+        (queue-at f (s .lengths) (old .queue) (form .queue) 1 h .1)
 
     -- the backlog and the bounds after step 5
     served-good : Good (tableOf s) (clockAfter s f) (viewOf after)
-    served-good = elim (decLe (old .waiting) 1) as (λ _. Good (tableOf s) (clockAfter s f) (viewOf after)) [
+    served-good = elim (decLe (old .queue .waiting) 1) as (λ _. Good (tableOf s) (clockAfter s f) (viewOf after)) [
       | yes p ↦ rw (serve-last p) middle-good
       | no p ↦ front-good sound (clockAfter s f) f (chargeOf (behindLength s f)) (small .counts) middle-good
           (middle-change .charge-at) (behind-fits (omega arith)) (serve-front (omega arith))
@@ -168,7 +170,7 @@ module _ (s : State) (f : ℕ) where
       leap-high (clockOf s) (s .held .width) (old .tag .0),
       range .largest-high,
       width-most (s .held) (s .lengths) (S .form),
-      queue-at f (s .lengths) old (form .queue) 0 (small .waits),
+      queue-at f (s .lengths) (old .queue) (form .queue) 0 (small .waits),
     )
 
     -- a pick keeps what is steady
@@ -187,9 +189,9 @@ module _ (s : State) (f : ℕ) where
     serve-clock-on = omega (arith, leap-low (clockOf s) (s .held .width) (old .tag .0))
 
     -- after the serve no flow that waited is behind the clock, and the next front moves no start
-    front-stays : (g : ℕ) → g < s .held .flows → 0 < flowOf s g .waiting
+    front-stays : (g : ℕ) → g < s .held .flows → 0 < flowOf s g .queue .waiting
         → StaysAhead (clockAfter s f) g (flowCost (flowOf s g)) middle (viewOf after)
-    front-stays g l w = elim (decLe (old .waiting) 1)
+    front-stays g l w = elim (decLe (old .queue .waiting) 1)
         as (λ _. StaysAhead (clockAfter s f) g (flowCost (flowOf s g)) middle (viewOf after)) [
           | yes p ↦ same-start (flowCost (flowOf s g)) (clockAfter s f) g (serve-last p) still
           | no p ↦ front-start (tableOf s .cost) (clockAfter s f) f (chargeOf (behindLength s f))
@@ -200,7 +202,7 @@ module _ (s : State) (f : ℕ) where
         still = omega (arith, serve-in-time, small .least g l w)
 
     -- so the start of such a flow moves on by its own packet's charge alone
-    pub serve-moves : (g : ℕ) → g < s .held .flows → 0 < flowOf s g .waiting
+    pub serve-moves : (g : ℕ) → g < s .held .flows → 0 < flowOf s g .queue .waiting
         → (clockAfter s f ≤ viewOf after .tag g)
         × MovesOn g (flowCost (flowOf s g)) (cond (eqb f g) (chargeOf (frontLength s f)) 0) (viewOf s) (viewOf after)
     serve-moves g l w =

@@ -7,8 +7,9 @@ use mathlib.Core.Bool.{true}
 use mathlib.Core.List.{List, [], _∷_}
 use Prim.Native.Nat.{ℕ, _+_, _*_, _≤_, _<_}
 use native.Mathlib.Omega.{arith}
-use Rattle.uplink.specs.Record.{flowAt, flowCost}
-use Rattle.uplink.specs.Reply.{done, refused}
+use Rattle.reply.specs.Reply.{done, refused}
+use Rattle.uplink.specs.Flow.{flowCost}
+use Rattle.uplink.specs.Record.{flowAt}
 use Rattle.uplink.specs.State.{State, Outcome}
 use Rattle.uplink.specs.Pick.{clockLimit}
 use Rattle.uplink.specs.Calls.{Call, pick}

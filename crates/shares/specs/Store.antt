@@ -7,25 +7,25 @@ use native.Mathlib.Decide.{ℕ-discrete}
 use native.Mathlib.Omega.{arith}
 use lib.Seq.{getD-set-same, getD-set-other}
 use borrow.Author.Tests.{eq-eqb, ne-eqb}
-use Rattle.flow.specs.Steps.{chargeOf, frontTag, joinedFlow}
-use Rattle.flow.specs.Form.{ranged, queueFormed}
-use Rattle.flow.specs.Laws.{ranged-out, ranged-in, queue-at, queue-in, place-in, place-apart}
-use Rattle.flow.specs.declared.Flow.{Flow}
-use Rattle.uplink.specs.Record.{flowCost}
+use Rattle.cost.specs.Charge.{chargeOf}
+use Rattle.queues.specs.Form.{ranged, queueFormed}
+use Rattle.queues.specs.Laws.{ranged-out, ranged-in, queue-at, queue-in, place-apart}
+use Rattle.tags.specs.Ticks.{frontTag}
+use Rattle.uplink.specs.Flow.{Flow, flowCost, joinedFlow}
 use Rattle.uplink.specs.State.{State}
 use Rattle.uplink.specs.Formed.{FlowFormed}
 use Rattle.shares.specs.Keep.{Good, Change, unchanged, front-good}
 use Rattle.shares.specs.Bridge.{flowOf, clockOf, tableOf, viewOf, Steady, charge-idle, charge-waits, table-sound}
 use Rattle.shares.specs.Bridge.{packet-fits}
-use Rattle.shares.specs.Put.{Put, put, lengthIn, put-charge, put-change, put-table, put-steady}
+use Rattle.shares.specs.Put.{Put, putState, lengthIn, put-charge, put-change, put-table, put-steady}
 use Rattle.shares.specs.Start.{StaysAhead, same-start, front-start}
 
 -- an arrival of n bytes at flow f that is taken
 pub record Joins (s : State) (f n : ℕ) : Type 0 where
   pub counts : f < s .held .flows
   pub some : 1 ≤ n
-  pub short : n ≤ flowOf s f .largest
-  pub room : flowOf s f .waiting < 64
+  pub short : n ≤ flowOf s f .queue .largest
+  pub room : flowOf s f .queue .waiting < 64
 
 module _ (s : State) (f n handle : ℕ) where
   -- flow f before and after, the clock, and the state after
@@ -43,7 +43,7 @@ module _ (s : State) (f n handle : ℕ) where
       record {
         index = f;
         flow = new;
-        number = old .waiting;
+        number = old .queue .waiting;
         bytes = n;
         handle = handle;
         clock = clock;
@@ -51,7 +51,7 @@ module _ (s : State) (f n handle : ℕ) where
       }
 
   abbrev after : State
-  after = put s stored
+  after = putState s stored
 
   module _ (S : Steady s) (J : Joins s f n) where
     -- flow f is in the table and has its form
@@ -62,49 +62,49 @@ module _ (s : State) (f n handle : ℕ) where
     form = S .form .each f inside
 
     -- the place behind the last packet has the new length
-    stored-last : (k : ℕ) → k ≡ old .waiting → lengthIn (after .lengths) f (old .first) k ≡ n
+    stored-last : (k : ℕ) → k ≡ old .queue .waiting → lengthIn (after .lengths) f (old .queue .first) k ≡ n
     stored-last k e = rw e (getD-set-same (s .lengths) _ n 0
-        (omega (arith, S .lengths-lent, place-in f (old .first) (old .waiting) (omega (arith, S .form .few)))))
+        (omega (arith, S .lengths-lent, S .form .few)))
 
     -- the others stay
-    stored-else : (k : ℕ) → k < old .waiting
-        → lengthIn (after .lengths) f (old .first) k ≡ lengthIn (s .lengths) f (old .first) k
+    stored-else : (k : ℕ) → k < old .queue .waiting
+        → lengthIn (after .lengths) f (old .queue .first) k ≡ lengthIn (s .lengths) f (old .queue .first) k
     stored-else k h = getD-set-other (s .lengths) _ _ n 0
-        (place-apart f (old .first) k (old .waiting)
-        (ranged-out old (form .range) .first-below) (omega (arith, J .room)) (J .room) (λ e. omega arith))
+        (place-apart f (old .queue .first) k (old .queue .waiting)
+        (ranged-out (old .queue) (form .range) .first-below) (omega (arith, J .room)) (J .room) (λ e. omega arith))
 
     -- the flow keeps its form
-    store-range : ranged new ≡ true
+    store-range : ranged (new .queue) ≡ true
     unfolding joinedFlow
-    store-range = let R = ranged-out old (form .range) in ranged-in new (omega arith)
+    store-range = let R = ranged-out (old .queue) (form .range) in ranged-in (new .queue) (omega arith)
 
-    store-queue : queueFormed f (after .lengths) new ≡ true
+    store-queue : queueFormed f (after .lengths) (new .queue) ≡ true
     unfolding joinedFlow
-    store-queue = queue-in f (after .lengths) new λ k h.
-        let length = lengthIn (after .lengths) f (old .first) k in
-        elim (ℕ-discrete k (old .waiting)) as (λ _. (1 ≤ length) × (length ≤ old .largest)) [
+    store-queue = queue-in f (after .lengths) (new .queue) λ k h.
+        let length = lengthIn (after .lengths) f (old .queue .first) k in
+        elim (ℕ-discrete k (old .queue .waiting)) as (λ _. (1 ≤ length) × (length ≤ old .queue .largest)) [
           | yes q ↦ rw (stored-last k q) (J .some, J .short)
-          | no q ↦ rw (stored-else k (omega arith)) (queue-at f (s .lengths) old (form .queue) k (omega arith))
+          | no q ↦ rw (stored-else k (omega arith)) (queue-at f (s .lengths) (old .queue) (form .queue) k (omega arith))
         ]
 
     -- front: at an empty flow the packet comes to the front
-    store-front : old .waiting ≡ 0
+    store-front : old .queue .waiting ≡ 0
         → Change f (frontTag (old .tag .0) clock (flowCost old) n) (chargeOf n) (viewOf s) (viewOf after)
     unfolding joinedFlow
     store-front e = put-change s stored S inside
-        (rw (eq-eqb (old .waiting) 0 e))
+        (rw (eq-eqb (old .queue .waiting) 0 e))
         (put-charge s stored S inside (omega arith) ∙ stored-last 0 (sym e))
 
     -- behind others nothing moves
-    store-behind : 0 < old .waiting → viewOf after ≡ viewOf s
+    store-behind : 0 < old .queue .waiting → viewOf after ≡ viewOf s
     unfolding joinedFlow
     store-behind e = unchanged (put-change s stored S inside
-        (rw (ne-eqb (old .waiting) 0 (λ z. omega arith)))
+        (rw (ne-eqb (old .queue .waiting) 0 (λ z. omega arith)))
         (put-charge s stored S inside (omega arith) ∙ stored-else 0 e ∙ sym (charge-waits s f e)))
 
     -- the backlog and the bounds are kept
     store-good : Good (tableOf s) clock (viewOf after)
-    store-good = elim (ℕ-discrete (old .waiting) 0) as (λ _. Good (tableOf s) clock (viewOf after)) [
+    store-good = elim (ℕ-discrete (old .queue .waiting) 0) as (λ _. Good (tableOf s) clock (viewOf after)) [
       | yes q ↦ front-good (table-sound s (S .form)) clock f (chargeOf n) inside (S .good) (charge-idle s f q)
           (packet-fits s (S .form) f n inside (J .short)) (store-front q)
       | no q ↦ rw (store-behind (omega arith)) (S .good)
@@ -124,7 +124,7 @@ module _ (s : State) (f n handle : ℕ) where
     -- no flow's start moves that is not behind the clock
     pub store-start : (g : ℕ) → clock ≤ viewOf s .tag g
         → StaysAhead clock g (flowCost (flowOf s g)) (viewOf s) (viewOf after)
-    store-start g a = elim (ℕ-discrete (old .waiting) 0)
+    store-start g a = elim (ℕ-discrete (old .queue .waiting) 0)
         as (λ _. StaysAhead clock g (flowCost (flowOf s g)) (viewOf s) (viewOf after)) [
           | yes q ↦ front-start (tableOf s .cost) clock f (chargeOf n) (charge-idle s f q) (store-front q) g a
           | no q ↦ same-start (flowCost (flowOf s g)) clock g (store-behind (omega arith)) a

@@ -39,7 +39,8 @@ module _ (X : Table) (f : ℕ) (l : f < X .size) where
     good-table = rw e at (S .good)
 
     counts-table : (x : Event) → Plain (x .call) → Gives s (x .call) (x .outcome)
-        → (x .call ≡ pick → 0 < flowOf s f .waiting) → clockOf s ≤ viewOf s .tag f → Counts f (X .cost f) s (x .outcome)
+        → (x .call ≡ pick → 0 < flowOf s f .queue .waiting) → clockOf s ≤ viewOf s .tag f
+        → Counts f (X .cost f) s (x .outcome)
     counts-table x plain gives waits ahead = rw (ap (λ (Y : Table). Y .cost f) e) at
         (call-counts s S (x .call) (x .outcome) plain gives f in-table ahead waits)
 
@@ -57,7 +58,7 @@ module _ (X : Table) (f : ℕ) (l : f < X .size) where
 
   -- where flow f waits its start is at most 2Δ ahead
   waits-stretch : (s : State) (xs : List Event) → Steady s → tableOf s ≡ X → Stretch s xs → WaitsAtPicks f s xs
-      → 0 < flowOf s f .waiting → 720 * picked xs ≤ pickedOf f xs * X .cost f + 3 * X .width
+      → 0 < flowOf s f .queue .waiting → 720 * picked xs ≤ pickedOf f xs * X .cost f + 3 * X .width
   waits-stretch s xs S e run waits w =
       let some = charge-some s f (S .form .each f (in-table s S e) .queue) w in
       let ahead = in-time (table-sound s (S .form)) (clockOf s) f (S .good) (in-table s S e) some in

@@ -1,57 +1,130 @@
 -- What each way through an arrival gives, as the rule has it.
 -- Assumes nothing.
-use mathlib.Core.Path.{_≡_, refl, sym, ap, _∙_}
-use mathlib.Core.List.{List, []}
-use Prim.Native.Nat.{ℕ, _≤_, _<_}
-use lib.ListN.{set}
-use borrow.Author.Tests.{le-ltb, lt-ltb, le-leb, lt-leb}
-use Rattle.cost.specs.Cost.{costs, costIn}
-use Rattle.flow.specs.Steps.{joinedFlow}
-use Rattle.flow.specs.declared.Flow.{Flow}
-use Rattle.uplink.specs.declared.Record.{Record}
-use Rattle.uplink.specs.Record.{flowAt, flowCost}
-use Rattle.uplink.specs.Reply.{done, refused}
+use mathlib.Core.Path.{_≡_, sym, ap, _∙_}
+use mathlib.Core.Bool.{Bool, false, not}
+use mathlib.Core.List.{List}
+use Prim.Native.Nat.{ℕ, _+_, _^_, _≤_, _<_}
+use native.Mathlib.Omega.{arith}
+use lib.ListN.{length, set}
+use lib.Seq.{set-getD}
+use borrow.Author.Tests.{eq-eqb, ne-eqb}
+use Rattle.cost.specs.Cost.{costs, costOf}
+use Rattle.reply.specs.Reply.{arrivalReply}
+use Rattle.reply.specs.Replies.{told}
+use Rattle.reply.specs.declared.ArrivalReply.{ArrivalReply}
+use Rattle.reply.specs.declared.Refusal.{Refusal}
+use Rattle.queues.specs.Queue.{placeOf}
+use Rattle.queues.specs.Queues.{queuesOf, put-joined}
+use Rattle.queues.specs.Places.{lent}
+use Rattle.queues.specs.Laws.{ranged-out, join-done}
+use Rattle.tags.specs.Ticks.{ticks, frontTag}
+use Rattle.tags.specs.declared.ServerTicks.{ServerTicks}
+use Rattle.uplink.specs.Flow.{joinedFlow}
+use Rattle.uplink.specs.Record.{flowAt, tagOf, waitingOf, with, tagsOf, put}
 use Rattle.uplink.specs.State.{Outcome, state, outcome}
-use Rattle.uplink.specs.Arrival.{lastPlace, storeRule, joinRule}
-use Rattle.uplink.proofs.Testing.{priced}
+use Rattle.uplink.specs.Form.{formed}
+use Rattle.uplink.specs.Formed.{tag-fits}
+use Rattle.uplink.specs.Arrival.{joining, storeRule, joinRule, arrivalRule}
+use Rattle.uplink.specs.declared.Record.{Record}
+use Rattle.uplink.proofs.Checking.{both-lent, was-formed, checked-on}
 
-module _ (r : Record) (lengths handles : List ℕ) (f n handle : ℕ) where
-  -- refusals 7, 8 and 9, and past them
-  pub join-no-flow : r .flows ≤ f
-      → outcome (refused 7 0) r lengths handles ≡ joinRule (state r lengths handles) f n handle
+-- what the checks leave where a packet of n bytes is stored at flow f
+pub record Storable (r : Record) (f n : ℕ) (table lengths handles : List ℕ) : Type 0 where
+  pub flow : f < 64
+  pub lengths-lent : length lengths ≡ 4096
+  pub handles-lent : length handles ≡ 4096
+  pub room : waitingOf r f < 64
+  pub short : n ≤ 1500
+  pub share-low : 1 ≤ flowAt r f .queue .share
+  pub share-high : flowAt r f .queue .share ≤ 1000
+  pub table-right : table ≡ costs
+  pub tag : tagOf r f < 2 ^ 63
+  pub clock : r .clock .0 < 2 ^ 63
+
+module _ (r : Record) (lengths handles : List ℕ) (f n handle : ℕ) (a : Bool) (l : a ≡ lent lengths handles)
+    (lends : not a ≡ false) (b : Bool) (e : b ≡ formed r lengths) (fine : not b ≡ false) (reply : ArrivalReply)
+    (j : arrivalReply reply ≡ joining (state r lengths handles) f n) where
+  -- past refusals 1 and 2
+  arrived-on : (o : Outcome) → o ≡ joinRule (state r lengths handles) f n handle
+      → o ≡ arrivalRule (state r lengths handles) f n handle
+  arrived-on o q =
+      checked-on r lengths handles (joinRule (state r lengths handles) f n handle) a l lends b e o fine q
+
+  -- 7, 8 or 9
+  pub arrived-refused : (why : Refusal) → reply ≡ ArrivalReply.Refused why
+      → outcome (arrivalReply reply) r lengths handles ≡ arrivalRule (state r lengths handles) f n handle
   unfolding joinRule
-  join-no-flow h = rw (le-ltb f (r .flows) h)
+  arrived-refused why d = arrived-on _ (rw (← j, d, told why .says))
 
-  pub join-empty : f < r .flows → n < 1
-      → outcome (refused 8 0) r lengths handles ≡ joinRule (state r lengths handles) f n handle
-  unfolding joinRule
-  join-empty h l = rw (lt-ltb f (r .flows) h, lt-leb 1 n l)
+  module _ (d : reply ≡ ArrivalReply.Done) where
+    pub storable : (table : List ℕ) → table ≡ costs → Storable r f n table lengths handles
+    storable table right =
+        let lend = both-lent lengths handles a l lends in
+        let F = was-formed r lengths b e fine in
+        let w = flowAt r f .queue in
+        let J = join-done (r .flows) f n (w .largest) (w .waiting) (sym j ∙ ap arrivalReply d) in
+        let R = ranged-out w (F .each f (J .counted) .range) in
+        record {
+          flow = omega (arith, F .few, J .counted);
+          lengths-lent = lend .0;
+          handles-lent = lend .1;
+          room = J .room;
+          short = omega (arith, J .short, R .largest-high);
+          share-low = R .share-low;
+          share-high = R .share-high;
+          table-right = right;
+          tag = tag-fits r lengths F f (J .counted);
+          clock = omega (arith, F .clock);
+        }
 
-  pub join-long : f < r .flows → 1 ≤ n → flowAt r f .largest < n
-      → outcome (refused 8 0) r lengths handles ≡ joinRule (state r lengths handles) f n handle
-  unfolding joinRule
-  join-long h l u = rw (lt-ltb f (r .flows) h, le-leb 1 n l, lt-leb n (flowAt r f .largest) u)
+    -- the packet is taken
+    taken-on : (o : Outcome) → o ≡ storeRule (state r lengths handles) f n handle
+        → o ≡ arrivalRule (state r lengths handles) f n handle
+    unfolding joinRule
+    taken-on o q = arrived-on o (rw (← j, d) q)
 
-  pub join-full : f < r .flows → 1 ≤ n → n ≤ flowAt r f .largest → 64 ≤ flowAt r f .waiting
-      → outcome (refused 9 0) r lengths handles ≡ joinRule (state r lengths handles) f n handle
-  unfolding joinRule
-  join-full h l u w =
-      rw (lt-ltb f (r .flows) h, le-leb 1 n l, le-leb n (flowAt r f .largest) u, le-ltb (flowAt r f .waiting) 64 w)
+    module _ (first waiting : ℕ) (waits ls hs : List ℕ)
+        (a-first : first ≡ flowAt r f .queue .first) (a-waiting : waiting ≡ waitingOf r f)
+        (stored : (ls ≡ set lengths (placeOf f first waiting) n) × (hs ≡ set handles (placeOf f first waiting) handle))
+        (counted : waits ≡ set (r .queues .waiting) f (waiting + 1)) where
+      -- the flow was empty: its tag changes
+      pub arrived-first : (share cost : ℕ) (tag next : ServerTicks) (tags : List ℕ) → waiting ≡ 0
+          → share ≡ flowAt r f .queue .share → cost ≡ costOf share → tag .0 ≡ tagOf r f
+          → next ≡ ticks (frontTag (tag .0) (r .clock .0) cost n) → tags ≡ set (r .tags .0) f (next .0)
+          → outcome (arrivalReply reply) (with r (r .clock) (r .link) (tagsOf tags)
+          (queuesOf (r .queues .share) (r .queues .largest) (r .queues .first) waits)) ls hs
+          ≡ arrivalRule (state r lengths handles) f n handle
+      unfolding storeRule joinedFlow put
+      arrived-first share cost tag next tags z s c t m p = taken-on _ (rw (
+        d,
+        stored .0,
+        stored .1,
+        counted,
+        p,
+        m,
+        t,
+        c,
+        s,
+        a-first,
+        a-waiting,
+        put-joined (r .queues) f (waitingOf r f + 1),
+        eq-eqb (waitingOf r f) 0 (sym a-waiting ∙ z),
+      ))
 
-  pub join-stored : (o : Outcome) → f < r .flows → 1 ≤ n → n ≤ flowAt r f .largest → flowAt r f .waiting < 64
-      → o ≡ storeRule (state r lengths handles) f n handle → o ≡ joinRule (state r lengths handles) f n handle
-  unfolding joinRule
-  join-stored o h l u w q =
-      rw (lt-ltb f (r .flows) h, le-leb 1 n l, le-leb n (flowAt r f .largest) u, lt-ltb (flowAt r f .waiting) 64 w) q
-
-  -- the packet is taken
-  pub stored : (table : List ℕ) (at cost : ℕ) (joined : Flow) → table ≡ costs
-      → at ≡ lastPlace (state r lengths handles) f
-      → cost ≡ costIn table (flowAt r f .share) → joined ≡ joinedFlow (flowAt r f) (r .clock) cost n
-      → outcome (done [])
-      (record { flows = r .flows; width = r .width; clock = r .clock; link = r .link; flow = set (r .flow) f joined })
-      (set lengths at n)
-      (set handles at handle)
-      ≡ storeRule (state r lengths handles) f n handle
-  unfolding storeRule
-  stored table at cost joined t a p j = rw (a, j, priced table cost (flowAt r f .share) t p)
+      -- it waited: no tag changes
+      pub arrived-behind : (waiting ≡ 0 → ⊥)
+          → outcome (arrivalReply reply) (with r (r .clock) (r .link) (r .tags)
+          (queuesOf (r .queues .share) (r .queues .largest) (r .queues .first) waits)) ls hs
+          ≡ arrivalRule (state r lengths handles) f n handle
+      unfolding storeRule joinedFlow put
+      arrived-behind z = taken-on _ (rw (
+        d,
+        stored .0,
+        stored .1,
+        counted,
+        a-first,
+        a-waiting,
+        put-joined (r .queues) f (waitingOf r f + 1),
+        ne-eqb (waitingOf r f) 0 (λ y. z (a-waiting ∙ y)),
+        set-getD (r .tags .0) f 0,
+      ))

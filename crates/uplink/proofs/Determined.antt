@@ -1,7 +1,6 @@
--- The three calls are determined: of the same arguments, any two outcomes that a call's contract allows have the
--- same reply, the
--- same record and the same numbers in every place of both memories. Each is said on the contract itself, so it
--- cannot drift from it.
+-- The three calls are determined: of the same arguments, any two outcomes that a call's contract allows have the same
+-- reply, the same record and the same numbers in every place of both memories. Each is said on the contract itself, so
+-- it cannot drift from it.
 -- Assumes nothing.
 use mathlib.Core.Path.{_≡_, sym, ap, ap₂, _∙_}
 use mathlib.Core.List.{List}
@@ -11,12 +10,13 @@ use borrow.Fn.World.{ArgsD, ResD}
 use borrow.Fn.Kinds.{endedOf}
 use denote.Triple.Clauses.{AtExit}
 use denote.Ref.{now}
+use Rattle.reply.specs.Reply.{Reply, openingReply, arrivalReply}
+use Rattle.reply.specs.Replies.{opening-reply-one, arrival-reply-one}
 use Rattle.uplink.specs.declared.Record.{Record}
 use Rattle.uplink.specs.declared.Opened.{Opened}
 use Rattle.uplink.specs.declared.Arrived.{Arrived}
 use Rattle.uplink.specs.declared.Picked.{Picked}
-use Rattle.uplink.specs.Reply.{Reply, openingReply, arrivalReply, pickReply}
-use Rattle.uplink.specs.Replies.{opening-reply-one, arrival-reply-one, pick-reply-one}
+use Rattle.uplink.specs.PickReply.{pickReply, pick-reply-one}
 use Rattle.uplink.specs.State.{Outcome, outcome}
 use Rattle.uplink.proofs.Record.opening as opening
 use Rattle.uplink.proofs.Record.opening.Kinds as opening-kinds

@@ -3,80 +3,204 @@
 use mathlib.Core.Path.{_≡_, refl, sym, ap, _∙_}
 use mathlib.Core.Bool.{Bool, true, false, not}
 use mathlib.Core.List.{List}
-use Prim.Native.Nat.{ℕ, _+_, _≤_, _<_}
+use Prim.Native.Nat.{ℕ, _+_, _-_, _%_, _^_, _≤_, _<_}
 use native.Mathlib.Omega.{arith}
 use lib.ListN.{length, getD, set}
-use borrow.Author.Tests.{lt-ltb, le-ltb, not-true, not-false}
-use Rattle.below.specs.Listed.{mapFirst, mapFirst-none, mapFirst-more}
-use Rattle.cost.specs.Cost.{costs, costIn}
-use Rattle.flow.specs.Steps.{noFlow, placeOf, linkTicks, leapRule, servedFlow, untagged}
-use Rattle.flow.specs.Laws.{leap-high}
-use Rattle.flow.specs.declared.Flow.{Flow}
-use Rattle.flow.specs.declared.ServerTicks.{ServerTicks}
-use Rattle.flow.specs.declared.steps.Leapt.{Leapt}
-use Rattle.uplink.specs.declared.Record.{Record}
-use Rattle.uplink.specs.declared.choice.Lead.{Lead}
-use Rattle.uplink.specs.Record.{flowAt, moved}
-use Rattle.uplink.specs.Reply.{idle, packet, refused}
+use lib.Seq.{set-getD}
+use borrow.Author.Tests.{not-true, not-false, le-ltb, lt-ltb}
+use Rattle.cost.specs.Cost.{costs, costOf}
+use Rattle.cost.specs.Charge.{linkTicks}
+use Rattle.reply.specs.Reply.{idle, refused, packet}
+use Rattle.queues.specs.Queue.{placeOf}
+use Rattle.queues.specs.Queues.{queuesOf, put-left}
+use Rattle.queues.specs.Places.{lent, freedOf}
+use Rattle.queues.specs.Laws.{ranged-out, queue-at}
+use Rattle.queues.specs.declared.places.Freed.{Freed}
+use Rattle.tags.specs.Ticks.{ticks, leapRule, frontTag}
+use Rattle.tags.specs.Chosen.{Leads, leads, Tagged}
+use Rattle.tags.specs.Laws.{leap-high}
+use Rattle.tags.specs.declared.LinkTicks.{LinkTicks}
+use Rattle.tags.specs.declared.ServerTicks.{ServerTicks}
+use Rattle.tags.specs.declared.choice.Lead.{Lead}
+use Rattle.tags.specs.declared.steps.Leapt.{Leapt}
+use Rattle.uplink.specs.Flow.{servedFlow}
+use Rattle.uplink.specs.Record.{flowAt, tagOf, waitingOf, with, tagsOf, linkTime, rested, put}
 use Rattle.uplink.specs.State.{Outcome, state, outcome}
-use Rattle.uplink.specs.Choice.{leadOf}
-use Rattle.uplink.specs.Pick.{clockLimit, serveRule, restedRecord, idleRule, chooseRule}
-use Rattle.uplink.proofs.Testing.{priced}
+use Rattle.uplink.specs.Form.{formed}
+use Rattle.uplink.specs.Formed.{tag-fits, width-most}
+use Rattle.uplink.specs.Pick.{clockLimit, leadOf, serveRule, idleRule, chooseRule, pickRule, goneOf}
+use Rattle.uplink.specs.declared.Record.{Record}
+use Rattle.uplink.specs.declared.pick.Gone.{Gone}
+use Rattle.uplink.proofs.Checking.{both-lent, was-formed, checked-on}
 
--- a leap is at most one leap width
+abbrev goneBy : Freed → ServerTicks → LinkTicks → ℕ → Gone
+goneBy freed clock link sent =
+    record {
+      length = freed .length;
+      handle = freed .handle;
+      behind = freed .behind;
+      clock = ticks (clock .0 + sent);
+      link = linkTime (link .0 + sent);
+    }
+
+-- the packet that left, and what it took of the link
+pub advanced : (f first sent : ℕ) (clock : ServerTicks) (link : LinkTicks) (lengths handles ls hs : List ℕ) (freed : Freed)
+    → (freed ≡ freedOf f first lengths handles)
+    × (ls ≡ set lengths (placeOf f first 0) 0)
+    × (hs ≡ set handles (placeOf f first 0) 0)
+    → sent ≡ linkTicks (freed .length)
+    → (goneBy freed clock link sent ≡ goneOf f first (clock .0) (link .0) lengths handles)
+    × (ls ≡ set lengths (placeOf f first 0) 0)
+    × (hs ≡ set handles (placeOf f first 0) 0)
+advanced f first sent clock link lengths handles ls hs freed e s = (rw (s, e .0), e .1, e .2)
+
+-- a leap takes the clock on by Δ at the most
 pub leap-most : (leap : Leapt) (clock tag : ServerTicks) (width : ℕ) → leap ≡ leapRule clock width tag
     → leap .clock .0 ≤ clock .0 + width
 unfolding leapRule
 leap-most leap clock tag width e = rw e (leap-high (clock .0) width (tag .0))
 
--- the tags of the first n flows are 0: of none, of one more, of all
-pub rest-none : (r : Record) → moved r 0 0 (r .flow) ≡ moved r 0 0 (mapFirst untagged 0 (r .flow))
-rest-none r = ap (moved r 0 0) (mapFirst-none untagged (r .flow))
+-- what is left of 64 bits above a clock that a packet has taken on
+pub gone-most : (gone : Gone) (f first clock link : ℕ) (lengths handles : List ℕ)
+    → gone ≡ goneOf f first clock link lengths handles → getD lengths (placeOf f first 0) 0 ≤ 1500
+    → gone .clock .0 ≤ clock + 1080000
+gone-most gone f first clock link lengths handles e h = rw e (omega (arith, h))
 
-pub rest-turn : (r next : Record) (n : ℕ) → next ≡ moved r 0 0 (mapFirst untagged n (r .flow))
-    → record {
-      flows = next .flows;
-      width = next .width;
-      clock = next .clock;
-      link = next .link;
-      flow = set (next .flow) n (untagged (getD (next .flow) n noFlow));
-    }
-    ≡ moved r 0 0 (mapFirst untagged (n + 1) (r .flow))
-rest-turn r next n e = rw e (ap (moved r 0 0) (mapFirst-more untagged n (r .flow) noFlow))
+-- what the checks leave where the front packet of the flow that leads goes
+pub record Servable (r : Record) (lead : Lead) (table lengths handles : List ℕ) : Type 0 where
+  pub flow : lead .flow < 64
+  pub lengths-lent : length lengths ≡ 4096
+  pub handles-lent : length handles ≡ 4096
+  pub first-below : flowAt r (lead .flow) .queue .first < 64
+  pub waits : 0 < waitingOf r (lead .flow)
+  pub short : getD lengths (placeOf (lead .flow) (flowAt r (lead .flow) .queue .first) 0) 0 ≤ 1500
+  pub share-low : 1 ≤ flowAt r (lead .flow) .queue .share
+  pub share-high : flowAt r (lead .flow) .queue .share ≤ 1000
+  pub table-right : table ≡ costs
+  pub tag : lead .tag .0 < 2 ^ 63
+  pub clock : r .clock .0 < 2 ^ 62
+  pub link : r .link .0 < 2 ^ 62
+  pub width : r .width ≤ 1080000000
 
-pub rest-done : (r next : Record) (n : ℕ) → n ≡ 64 → next ≡ moved r 0 0 (mapFirst untagged n (r .flow))
-    → next ≡ restedRecord r
-rest-done r next n h e = e ∙ ap (λ k. moved r 0 0 (mapFirst untagged k (r .flow))) h
+module _ (r : Record) (lengths handles : List ℕ) (a : Bool) (l : a ≡ lent lengths handles) (lends : not a ≡ false)
+    (b : Bool) (e : b ≡ formed r lengths) (fine : not b ≡ false) where
+  -- no tag of a flow that counts stands for none
+  pub tagged : (r .flows ≤ 64) × Tagged (r .tags .0) (r .flows)
+  tagged = let F = was-formed r lengths b e fine in
+      (F .few, record { each = λ f h. omega (arith, tag-fits r lengths F f h) })
 
-module _ (r : Record) (lengths handles : List ℕ) (lead : Lead) (led : lead ≡ leadOf (r .flow) (r .flows)) where
-  -- nothing waits
-  pub choose-idle : (next : Record) → not (lead .waits) ≡ true → next ≡ restedRecord r
-      → outcome idle next lengths handles ≡ chooseRule (state r lengths handles)
-  unfolding chooseRule idleRule
-  choose-idle next w e = rw (← led, not-true (lead .waits) w, e)
+  -- past refusals 1 and 2
+  picked-on : (o : Outcome) → o ≡ chooseRule (state r lengths handles) → o ≡ pickRule (state r lengths handles)
+  picked-on o q = checked-on r lengths handles (chooseRule (state r lengths handles)) a l lends b e o fine q
 
-  -- refusal 10
-  pub choose-late : not (lead .waits) ≡ false → clockLimit ≤ r .clock .0
-      → outcome (refused 10 0) r lengths handles ≡ chooseRule (state r lengths handles)
-  unfolding chooseRule
-  choose-late w h = rw (← led, not-false (lead .waits) w, le-ltb (r .clock .0) clockLimit h)
+  module _ (lead : Lead) (led : lead ≡ leadOf r) where
+    -- step 1
+    pub picked-idle : not (lead .waits) ≡ true
+        → outcome idle (rested r) lengths handles ≡ pickRule (state r lengths handles)
+    unfolding chooseRule idleRule
+    picked-idle w = picked-on _ (rw (← led, not-true (lead .waits) w))
 
-  -- the leader is served
-  pub choose-served : (o : Outcome) → not (lead .waits) ≡ false → r .clock .0 < clockLimit
-      → o ≡ serveRule (state r lengths handles) (lead .flow) → o ≡ chooseRule (state r lengths handles)
-  unfolding chooseRule
-  choose-served o w h e = rw (← led, not-false (lead .waits) w, lt-ltb (r .clock .0) clockLimit h) e
+    module _ (w : not (lead .waits) ≡ false) where
+      -- 10
+      pub picked-late : clockLimit ≤ r .clock .0
+          → outcome (refused 10 0) r lengths handles ≡ pickRule (state r lengths handles)
+      unfolding chooseRule
+      picked-late h = picked-on _ (rw (← led, not-false (lead .waits) w, le-ltb (r .clock .0) clockLimit h))
 
--- steps 3 to 5 at flow f
-module _ (r : Record) (lengths handles table : List ℕ) (f front behind sent cost : ℕ) (leap : Leapt) (next : Flow) where
-  pub served : table ≡ costs → front ≡ placeOf f (flowAt r f .first) 0 → behind ≡ placeOf f (flowAt r f .first) 1
-      → leap ≡ leapRule (r .clock) (r .width) (flowAt r f .tag) → sent ≡ linkTicks (getD lengths front 0)
-      → cost ≡ costIn table (flowAt r f .share)
-      → next ≡ servedFlow (flowAt r f) (record { 0 = leap .clock .0 + sent }) cost (getD lengths behind 0)
-      → outcome (packet f (getD lengths front 0) (getD handles front 0) (flowAt r f .tag .0) (leap .leapt) (leap .clock .0 + sent))
-      (moved r (leap .clock .0 + sent) (r .link .0 + sent) (set (r .flow) f next))
-      (set lengths front 0)
-      (set handles front 0)
-      ≡ serveRule (state r lengths handles) f
-  unfolding serveRule leapRule
-  served t a b l s c n = rw (n, priced table cost (flowAt r f .share) t c, s, l, a, b)
+      leader : Leads (tagOf r) (waitingOf r) (r .flows) lead
+      leader = rw (← led) at (leads (tagOf r) (waitingOf r) (r .flows))
+
+      own : tagOf r (lead .flow) ≡ lead .tag .0
+      own = leader .own (not-false (lead .waits) w)
+
+      module _ (soon : r .clock .0 < clockLimit) where
+        pub servable : (table : List ℕ) → table ≡ costs → Servable r lead table lengths handles
+        servable table right =
+            let lend = both-lent lengths handles a l lends in
+            let F = was-formed r lengths b e fine in
+            let chosen = leader .smallest (not-false (lead .waits) w) in
+            let each = F .each (lead .flow) (chosen .counts) in
+            let R = ranged-out (flowAt r (lead .flow) .queue) (each .range) in
+            let front = queue-at (lead .flow) lengths (flowAt r (lead .flow) .queue) (each .queue) 0 (chosen .waits) in
+            record {
+              flow = omega (arith, F .few, chosen .counts);
+              lengths-lent = lend .0;
+              handles-lent = lend .1;
+              first-below = R .first-below;
+              waits = chosen .waits;
+              short = omega (arith, front .1, R .largest-high);
+              share-low = R .share-low;
+              share-high = R .share-high;
+              table-right = right;
+              tag = omega (arith, tag-fits r lengths F (lead .flow) (chosen .counts), own);
+              clock = soon;
+              link = omega (arith, F .link);
+              width = width-most r lengths F;
+            }
+
+        -- the front packet goes
+        served-on : (o : Outcome) → o ≡ serveRule (state r lengths handles) (lead .flow)
+            → o ≡ pickRule (state r lengths handles)
+        unfolding chooseRule
+        served-on o q =
+            picked-on o (rw (← led, not-false (lead .waits) w, lt-ltb (r .clock .0) clockLimit soon) q)
+
+        module _ (first waiting : ℕ) (leap : Leapt) (gone : Gone) (firsts waits ls hs : List ℕ)
+            (leapt : leap ≡ leapRule (r .clock) (r .width) (lead .tag))
+            (a-first : first ≡ flowAt r (lead .flow) .queue .first) (a-waiting : waiting ≡ waitingOf r (lead .flow))
+            (went : (gone ≡ goneOf (lead .flow) first (leap .clock .0) (r .link .0) lengths handles)
+            × (ls ≡ set lengths (placeOf (lead .flow) first 0) 0)
+            × (hs ≡ set handles (placeOf (lead .flow) first 0) 0))
+            (on : firsts ≡ set (r .queues .first) (lead .flow) ((first + 1) % 64))
+            (fewer : waits ≡ set (r .queues .waiting) (lead .flow) (waiting - 1)) where
+          abbrev nextRecord : List ℕ → Record
+          nextRecord tags =
+              with r (gone .clock) (gone .link) (tagsOf tags) (queuesOf (r .queues .share) (r .queues .largest) firsts waits)
+
+          -- another packet comes to the front, and the flow gets its tag
+          pub picked-more : (share cost : ℕ) (next : ServerTicks) (tags : List ℕ) → 1 < waiting
+              → share ≡ flowAt r (lead .flow) .queue .share → cost ≡ costOf share
+              → next ≡ ticks (frontTag (lead .tag .0) (gone .clock .0) cost (gone .behind))
+              → tags ≡ set (r .tags .0) (lead .flow) (next .0)
+              → outcome (packet (lead .flow) (gone .length) (gone .handle) (lead .tag .0) (leap .leapt) (gone .clock .0))
+              (nextRecord tags) ls hs
+              ≡ pickRule (state r lengths handles)
+          unfolding serveRule servedFlow put leapRule
+          picked-more share cost next tags h s c m p = served-on _ (rw (
+            p,
+            m,
+            c,
+            s,
+            went .1,
+            went .2,
+            went .0,
+            on,
+            fewer,
+            leapt,
+            a-first,
+            a-waiting,
+            ← own,
+            put-left (r .queues) (lead .flow) ((flowAt r (lead .flow) .queue .first + 1) % 64) (waitingOf r (lead .flow) - 1),
+            lt-ltb 1 (waitingOf r (lead .flow)) (omega (arith, h, a-waiting)),
+          ))
+
+          -- it was the last, and the tag stays
+          pub picked-last : waiting ≤ 1
+              → outcome (packet (lead .flow) (gone .length) (gone .handle) (lead .tag .0) (leap .leapt) (gone .clock .0))
+              (nextRecord (r .tags .0)) ls hs
+              ≡ pickRule (state r lengths handles)
+          unfolding serveRule servedFlow put leapRule
+          picked-last h = served-on _ (rw (
+            went .1,
+            went .2,
+            went .0,
+            on,
+            fewer,
+            leapt,
+            a-first,
+            a-waiting,
+            ← own,
+            put-left (r .queues) (lead .flow) ((flowAt r (lead .flow) .queue .first + 1) % 64) (waitingOf r (lead .flow) - 1),
+            le-ltb 1 (waitingOf r (lead .flow)) (omega (arith, h, a-waiting)),
+            set-getD (r .tags .0) (lead .flow) 0,
+          ))

@@ -4,15 +4,19 @@ use mathlib.Core.List.{List}
 use Prim.Native.Nat.{ℕ}
 use lib.ListN.{replicate}
 use Rattle.below.specs.Below.{allBelow, sumBelow, mostBelow}
-use Rattle.below.specs.Listed.{listed, mapFirst}
+use Rattle.below.specs.Listed.{listed}
 use Rattle.cost.specs.Cost.{costOf}
-use Rattle.flow.specs.Steps.{joinedFlow, servedFlow}
-use Rattle.flow.specs.Form.{ranged, queueFormed, tagFormed, spareFlow}
-use Rattle.uplink.specs.Record.{blank, sharesOf, widthOf}
+use Rattle.queues.specs.Queues.{putQueue, sharesOf, widthOf}
+use Rattle.queues.specs.Form.{ranged, lengthsFormed, spareQueue, tabled, queuesFormed, queuesSpare}
+use Rattle.queues.specs.Places.{joinReply}
+use Rattle.queues.specs.Opening.{field64, newQueues, faultFrom, tableReply, listsReply}
+use Rattle.tags.specs.Form.{tagFormed, tagsFormed}
+use Rattle.tags.specs.Choice.{ahead, leadBy}
+use Rattle.uplink.specs.Flow.{spareFlow, joinedFlow, servedFlow}
+use Rattle.uplink.specs.Record.{blank, put}
 use Rattle.uplink.specs.State.{State, Outcome, state}
-use Rattle.uplink.specs.Form.{tabled, queuesFormed, tagsFormed, clocksFormed, restSpare, formed, checked}
-use Rattle.uplink.specs.Choice.{ahead, leadOf}
-use Rattle.uplink.specs.Opening.{newFlows, newRecord, faultFrom, tableReply, pairRule, openingRule}
+use Rattle.uplink.specs.Form.{clocksFormed, restSpare, formed, checked}
+use Rattle.uplink.specs.Opening.{newRecord, openingRule}
 use Rattle.uplink.specs.Arrival.{storeRule, joinRule, arrivalRule}
 use Rattle.uplink.specs.Pick.{serveRule, idleRule, chooseRule, pickRule}
 
@@ -36,7 +40,8 @@ afterCall s pick = pickRule s
 
 -- a theorem that is computed says `unfolding everyRule`, which opens every rule that the three calls are made of
 unfoldable pub everyRule : Unit {0}
-unfolding allBelow sumBelow mostBelow listed mapFirst costOf joinedFlow servedFlow ranged queueFormed tagFormed spareFlow
-    sharesOf widthOf tabled queuesFormed tagsFormed clocksFormed restSpare formed checked ahead leadOf
-    newFlows newRecord faultFrom tableReply pairRule openingRule storeRule joinRule serveRule idleRule chooseRule
+unfolding allBelow sumBelow mostBelow listed costOf putQueue sharesOf widthOf ranged lengthsFormed spareQueue tabled
+    queuesFormed queuesSpare joinReply field64 newQueues faultFrom tableReply listsReply tagFormed tagsFormed ahead leadBy
+    spareFlow joinedFlow servedFlow put clocksFormed restSpare formed checked newRecord openingRule storeRule joinRule
+    serveRule idleRule chooseRule
 everyRule = tt

@@ -1,80 +1,95 @@
 -- What a well-formed record gives its callers, and what makes one: the form's Bool and its sentences say the same.
 -- `Formed` has a field for each sentence; `formed-out` and `formed-in` go between the two.
 -- Assumes nothing.
-use mathlib.Core.Path.{_≡_, refl, sym, ap, ap₂, _∙_}
-use mathlib.Core.Bool.{Bool, true, false, _&&_, _||_}
+use mathlib.Core.Path.{_≡_, refl}
+use mathlib.Core.Bool.{Bool, true, _&&_}
 use mathlib.Core.List.{List}
-use Prim.Native.Nat.{ℕ, _≤_, _<_}
+use Prim.Native.Nat.{ℕ, _^_, _≤_, _<_}
 use native.Mathlib.Nat.{mul-le-mul}
 use native.Mathlib.Omega.{arith}
-use lib.Dec.{leb, ltb, eqb}
+use lib.Dec.{leb, eqb}
 use borrow.Author.Tests.{leb-true, ltb-true, eqb-true, le-leb, lt-ltb, eq-eqb, ltb-false, le-ltb}
-use Rattle.below.specs.Below.{allBelow, allBelow-at, allBelow-of, mostBelow-le}
+use Rattle.below.specs.Below.{allBelow-at, allBelow-of, mostBelow-le}
 use Rattle.below.specs.Truth.{both-true, both-of, four-true, four-of, or-right, or-either}
 use Rattle.cost.specs.Cost.{within, within-bounds, within-of, cost-most}
-use Rattle.flow.specs.Steps.{noFlow}
-use Rattle.flow.specs.Form.{booked, placed, ranged, queueFormed, tagFormed, spareFlow}
-use Rattle.flow.specs.Laws.{ranged-out}
+use Rattle.queues.specs.Queues.{sharesOf, widthOf}
+use Rattle.queues.specs.Form.{counts, booked, placed, ranged, queueFormed, tabled, queuesFormed}
+use Rattle.queues.specs.Laws.{ranged-out, spare-out, spare-in}
+use Rattle.tags.specs.Form.{tagFormed, tagsFormed}
+use Rattle.tags.specs.Laws.{tag-at-most}
+use Rattle.uplink.specs.Flow.{Flow, noFlow, flowOf, spareFlow}
+use Rattle.uplink.specs.Record.{flowAt, tagOf, waitingOf}
+use Rattle.uplink.specs.Form.{clockEnd, clocksFormed, restSpare, formed}
 use Rattle.uplink.specs.declared.Record.{Record}
-use Rattle.uplink.specs.Record.{flowAt, counts, sharesOf, widthOf}
-use Rattle.uplink.specs.Form.{clockEnd, tabled, queuesFormed, tagsFormed, clocksFormed, restSpare, formed}
 
 -- flow f of a well-formed record
 pub record FlowFormed (r : Record) (lengths : List ℕ) (f : ℕ) : Type 0 where
-  pub range : ranged (flowAt r f) ≡ true
-  pub queue : queueFormed f lengths (flowAt r f) ≡ true
-  pub tag : tagFormed (r .clock .0) (r .width) (flowAt r f) ≡ true
+  pub range : ranged (flowAt r f .queue) ≡ true
+  pub queue : queueFormed f lengths (flowAt r f .queue) ≡ true
+  pub tag : tagFormed (r .clock .0) (r .width) (tagOf r f) (waitingOf r f) ≡ true
 
 -- a well-formed record
 pub record Formed (r : Record) (lengths : List ℕ) : Type 0 where
   pub some : 1 ≤ r .flows
   pub few : r .flows ≤ 64
-  pub shares : sharesOf (r .flow) (r .flows) ≤ 1000
-  pub width : widthOf (r .flow) (r .flows) ≡ r .width
+  pub shares : sharesOf (r .queues) (r .flows) ≤ 1000
+  pub width : widthOf (r .queues) (r .flows) ≡ r .width
   pub each : (f : ℕ) → f < r .flows → FlowFormed r lengths f
   pub link : r .link .0 ≤ r .clock .0
   pub clock : r .clock .0 < clockEnd
   pub rest : (f : ℕ) → r .flows ≤ f → f < 64 → spareFlow (flowAt r f) ≡ true
 
-pub formed-out : (r : Record) (lengths : List ℕ) → formed r lengths ≡ true → Formed r lengths
-unfolding formed tabled queuesFormed tagsFormed clocksFormed restSpare ranged
-formed-out r lengths e =
-    let parts = both-true (tabled r && queuesFormed r lengths && tagsFormed r && clocksFormed r) (restSpare r) e in
-    let four = four-true (tabled r) (queuesFormed r lengths) (tagsFormed r) (clocksFormed r) (parts .0) in
-    let table = four-true (within 1 64 (r .flows)) _ _ _ (four .0) in
-    let size = within-bounds 1 64 (r .flows) (table .0) in
-    let clocks = both-true (leb (r .link .0) (r .clock .0)) _ (four .3) in
-    record {
-      some = size .0;
-      few = size .1;
-      shares = leb-true _ _ (table .2);
-      width = eqb-true _ _ (table .3);
-      each = λ f h.
-          let queue = both-true (placed (flowAt r f)) _ (allBelow-at _ _ (four .1) f h) in
-          record {
-            range = both-of _ _ (allBelow-at _ _ (table .1) f h) (queue .0);
-            queue = queue .1;
-            tag = allBelow-at _ _ (four .2) f h;
-          };
-      link = leb-true _ _ (clocks .0);
-      clock = ltb-true _ _ (clocks .1);
-      rest = λ f h l. or-right (counts r f) _ (allBelow-at _ _ (parts .1) f l) (le-ltb f (r .flows) h);
-    }
+-- the five bullets of a record, each a Bool
+module _ (r : Record) (lengths : List ℕ) where
+  abbrev table : Bool
+  table = tabled (r .flows) (r .width) (r .queues)
 
-pub formed-in : (r : Record) (lengths : List ℕ) → Formed r lengths → formed r lengths ≡ true
-unfolding formed tabled queuesFormed tagsFormed clocksFormed restSpare ranged
-formed-in r lengths F =
-    both-of (tabled r && queuesFormed r lengths && tagsFormed r && clocksFormed r) (restSpare r)
-    (four-of (tabled r) (queuesFormed r lengths) (tagsFormed r) (clocksFormed r)
-    (four-of (within 1 64 (r .flows)) _ _ _
-    (within-of 1 64 (r .flows) (F .some) (F .few))
-    (allBelow-of _ _ λ f h. both-true (booked (flowAt r f)) _ (F .each f h .range) .0)
-    (le-leb _ _ (F .shares))
-    (eq-eqb _ _ (F .width)))
-    (allBelow-of _ _ λ f h. both-of _ _ (both-true (booked (flowAt r f)) _ (F .each f h .range) .1) (F .each f h .queue))
-    (allBelow-of _ _ λ f h. F .each f h .tag)
-    (both-of _ _ (le-leb _ _ (F .link)) (lt-ltb _ _ (F .clock))))
-    (allBelow-of _ _ λ f l. or-either (counts r f) _ (λ e. F .rest f (ltb-false f (r .flows) e) l))
+  abbrev queues : Bool
+  queues = queuesFormed (r .flows) (r .queues) lengths
+
+  abbrev tags : Bool
+  tags = tagsFormed (r .flows) (r .width) (r .clock .0) (tagOf r) (waitingOf r)
+
+  pub formed-out : formed r lengths ≡ true → Formed r lengths
+  unfolding formed tabled queuesFormed tagsFormed clocksFormed restSpare ranged
+  formed-out e =
+      let parts = both-true (table && queues && tags && clocksFormed r) (restSpare r) e in
+      let four = four-true table queues tags (clocksFormed r) (parts .0) in
+      let first = four-true (within 1 64 (r .flows)) _ _ _ (four .0) in
+      let size = within-bounds 1 64 (r .flows) (first .0) in
+      let clocks = both-true (leb (r .link .0) (r .clock .0)) _ (four .3) in
+      record {
+        some = size .0;
+        few = size .1;
+        shares = leb-true _ _ (first .2);
+        width = eqb-true _ _ (first .3);
+        each = λ f h.
+            let queue = both-true (placed (flowAt r f .queue)) _ (allBelow-at _ _ (four .1) f h) in
+            record {
+              range = both-of _ _ (allBelow-at _ _ (first .1) f h) (queue .0);
+              queue = queue .1;
+              tag = allBelow-at _ _ (four .2) f h;
+            };
+        link = leb-true _ _ (clocks .0);
+        clock = ltb-true _ _ (clocks .1);
+        rest = λ f h l. or-right (counts (r .flows) f) _ (allBelow-at _ _ (parts .1) f l) (le-ltb f (r .flows) h);
+      }
+
+  pub formed-in : Formed r lengths → formed r lengths ≡ true
+  unfolding formed tabled queuesFormed tagsFormed clocksFormed restSpare ranged
+  formed-in F =
+      both-of (table && queues && tags && clocksFormed r) (restSpare r)
+      (four-of table queues tags (clocksFormed r)
+      (four-of (within 1 64 (r .flows)) _ _ _
+      (within-of 1 64 (r .flows) (F .some) (F .few))
+      (allBelow-of _ _ λ f h. both-true (booked (flowAt r f .queue)) _ (F .each f h .range) .0)
+      (le-leb _ _ (F .shares))
+      (eq-eqb _ _ (F .width)))
+      (allBelow-of _ _ λ f h.
+      both-of _ _ (both-true (booked (flowAt r f .queue)) _ (F .each f h .range) .1) (F .each f h .queue))
+      (allBelow-of _ _ λ f h. F .each f h .tag)
+      (both-of _ _ (le-leb _ _ (F .link)) (lt-ltb _ _ (F .clock))))
+      (allBelow-of _ _ λ f l. or-either (counts (r .flows) f) _ (λ e. F .rest f (ltb-false f (r .flows) e) l))
 
 -- the leap width is at most 1,080,000,000
 pub width-most : (r : Record) (lengths : List ℕ) → Formed r lengths → r .width ≤ 1080000000
@@ -84,5 +99,26 @@ width-most r lengths F =
       arith,
       F .width,
       mostBelow-le _ (r .flows) 1080000000 λ f h.
-          mul-le-mul (ranged-out (flowAt r f) (F .each f h .range) .largest-high) (cost-most (flowAt r f .share)),
+          mul-le-mul (ranged-out (flowAt r f .queue) (F .each f h .range) .largest-high) (cost-most (flowAt r f .queue .share)),
     )
+
+-- no tag of a well-formed record is near the end of 64 bits
+pub tag-fits : (r : Record) (lengths : List ℕ) → Formed r lengths → (f : ℕ) → f < r .flows → tagOf r f < 2 ^ 63
+tag-fits r lengths F f h =
+    omega (
+      arith,
+      F .clock,
+      width-most r lengths F,
+      tag-at-most (r .clock .0) (r .width) (tagOf r f) (waitingOf r f) (F .each f h .tag),
+    )
+
+-- a spare flow has 0 in every field
+pub spare-flow : (w : Flow) → spareFlow w ≡ true → w ≡ noFlow
+unfolding spareFlow
+spare-flow w e = let b = both-true (eqb (w .tag .0) 0) _ e in
+    rw (eqb-true (w .tag .0) 0 (b .0), spare-out (w .queue) (b .1))
+
+-- and the flow with 0 in every field is spare
+pub no-flow-spare : spareFlow noFlow ≡ true
+unfolding spareFlow
+no-flow-spare = spare-in

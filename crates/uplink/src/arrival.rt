@@ -1,90 +1,18 @@
 // An arrival: document 01, "The three calls", with refusals 1, 2, 7, 8, 9 in this order.
 ghost use mathlib.Core.Path.{_≡_};
-ghost use Rattle.uplink.specs.Reply.{arrivalReply};
+ghost use Rattle.reply.specs.Reply.{arrivalReply};
 ghost use Rattle.uplink.specs.State.{state, outcome};
-ghost use Rattle.uplink.specs.Ready.{Ready, Storable};
-ghost use Rattle.uplink.specs.Arrival.{storeRule, joinRule, arrivalRule};
-use crate::ArrivalReply;
+ghost use Rattle.uplink.specs.Arrival.{arrivalRule};
 use crate::Arrived;
 use crate::Record;
-use crate::Refusal;
+use crate::form;
+use reply::ArrivalReply;
+use reply::Refusal;
 
 impl Record {
-    // The packet is taken: it goes behind the flow's last one.
-    fn store(
-        mut self,
-        table: &[u32; 1000],
-        flow: u32,
-        length: u32,
-        handle: u32,
-        lengths: &mut [u16],
-        handles: &mut [u32],
-    ) -> Arrived
-        requires { ⌜ Storable self flow length (now table) (now lengths) (now handles) ⌝ }
-        ensures { λ r. ⌜ outcome (arrivalReply (r .reply)) (r .next) (now (lengths .exit)) (now (handles .exit))
-            ≡ storeRule (state self (now (lengths .entry)) (now (handles .entry))) flow length handle ⌝ }
-    {
-        let f = flow as usize;
-        let w = self.flow[f];
-        let bytes = length as u16;
-        let at = flow::place(flow, w.first, w.waiting);
-        lengths[at] = bytes;
-        handles[at] = handle;
-        let cost = cost::cost_in(table, w.share);
-        let joined = flow::joined(w, self.clock, bytes, cost);
-        self.flow[f] = joined;
-        Arrived {
-            next: self,
-            reply: ArrivalReply::Done,
-        }
-    }
-
-    // Refusals 7, 8 and 9.
-    fn join(
-        self,
-        table: &[u32; 1000],
-        flow: u32,
-        length: u32,
-        handle: u32,
-        lengths: &mut [u16],
-        handles: &mut [u32],
-    ) -> Arrived
-        requires { ⌜ Ready self (now table) (now lengths) (now handles) ⌝ }
-        ensures { λ r. ⌜ outcome (arrivalReply (r .reply)) (r .next) (now (lengths .exit)) (now (handles .exit))
-            ≡ joinRule (state self (now (lengths .entry)) (now (handles .entry))) flow length handle ⌝ }
-    {
-        if self.flows <= flow {
-            return Arrived {
-                next: self,
-                reply: ArrivalReply::Refused(Refusal::NoFlow),
-            };
-        }
-        let f = flow as usize;
-        let w = self.flow[f];
-        if length < 1 {
-            return Arrived {
-                next: self,
-                reply: ArrivalReply::Refused(Refusal::Length),
-            };
-        }
-        if (w.largest as u32) < length {
-            return Arrived {
-                next: self,
-                reply: ArrivalReply::Refused(Refusal::Length),
-            };
-        }
-        if 64 <= w.waiting {
-            return Arrived {
-                next: self,
-                reply: ArrivalReply::Refused(Refusal::Full),
-            };
-        }
-        self.store(table, flow, length, handle, lengths, handles)
-    }
-
     // A packet of `length` bytes, known to the caller by `handle`, comes to `flow`.
     pub fn arrival(
-        self,
+        mut self,
         flow: u32,
         length: u32,
         handle: u32,
@@ -94,25 +22,46 @@ impl Record {
         ensures exact { λ r. ⌜ outcome (arrivalReply (r .reply)) (r .next) (now (lengths .exit)) (now (handles .exit))
             ≡ arrivalRule (state self (now (lengths .entry)) (now (handles .entry))) flow length handle ⌝ }
     {
-        if lengths.len() != 4096 {
-            return Arrived {
-                next: self,
-                reply: ArrivalReply::Refused(Refusal::Memory),
-            };
-        }
-        if handles.len() != 4096 {
-            return Arrived {
-                next: self,
-                reply: ArrivalReply::Refused(Refusal::Memory),
-            };
-        }
         let table = cost::table();
-        if !self.is_formed(&table, lengths) {
-            return Arrived {
-                next: self,
-                reply: ArrivalReply::Refused(Refusal::Form),
-            };
+        let mut reply = ArrivalReply::Done;
+        if !queues::are_lent(lengths, handles) {
+            reply = ArrivalReply::Refused(Refusal::Memory);
+        } else if !form::is_formed(
+            &table,
+            self.flows,
+            self.width,
+            self.clock,
+            self.link,
+            &self.tags.0,
+            &self.queues.share,
+            &self.queues.largest,
+            &self.queues.first,
+            &self.queues.waiting,
+            lengths,
+        ) {
+            reply = ArrivalReply::Refused(Refusal::Form);
+        } else {
+            reply = queues::arrival_reply(
+                self.flows,
+                flow,
+                length,
+                &self.queues.largest,
+                &self.queues.waiting,
+            );
+            if let ArrivalReply::Done = reply {
+                let first = queues::field(&self.queues.first, flow);
+                let waiting = queues::field(&self.queues.waiting, flow);
+                let bytes = length as u16;
+                queues::store(flow, first, waiting, bytes, handle, lengths, handles);
+                queues::put_field(&mut self.queues.waiting, flow, waiting + 1);
+                if waiting == 0 {
+                    let cost = cost::cost_at(&table, queues::field(&self.queues.share, flow));
+                    let tag = tags::tag_at(&self.tags.0, flow);
+                    let next = tags::front_tag(tag, self.clock, bytes, cost);
+                    tags::put_tag(&mut self.tags.0, flow, next);
+                }
+            }
         }
-        self.join(&table, flow, length, handle, lengths, handles)
+        Arrived { next: self, reply }
     }
 }

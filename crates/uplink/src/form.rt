@@ -1,93 +1,42 @@
-// The form test: whether any record and memory handed in are well formed. It runs in every arrival and pick, reads
-// each flow once and never overflows.
+// The form test: whether any record and memory handed in are well formed. It runs in every arrival and pick, borrows
+// the record's arrays and never overflows.
 ghost use mathlib.Core.Path.{_≡_};
-ghost use mathlib.Core.Bool.{_&&_};
-ghost use Prim.Native.Nat.{_+_, _*_, _≤_, _<_};
-ghost use lib.Dec.{leb, eqb};
 ghost use lib.ListN.{length};
 ghost use Rattle.cost.specs.Cost.{costs};
-ghost use Rattle.uplink.specs.Form.{formed, restSpare};
-ghost use Rattle.uplink.specs.Tested.{flowTested, flowsTested};
-use crate::Record;
-use flow::Flow;
-use flow::ServerTicks;
+ghost use Rattle.uplink.specs.Record.{recordOf};
+ghost use Rattle.uplink.specs.Form.{formed};
+use tags::LinkTicks;
+use tags::ServerTicks;
 
 // The clock is below this: document 01's 2^62 + 1,081,080,000.
 const CLOCK_END: u64 = 4611686019508467904;
 
-// Ranges first: only then are the waiting places the flow's own.
-fn flow_ok(w: Flow, number: u32, clock: ServerTicks, width: u32, lengths: &[u16]) -> bool
-    requires { ⌜ 64 * number + 64 ≤ length (now lengths) ⌝ }
-    ensures { λ r. ⌜ r ≡ flowTested (clock .0) width number (now (lengths .entry)) w ⌝ }
+// The record of these parts is well formed, with this memory of lengths.
+pub(crate) fn is_formed<'a>(
+    table: &[u32; 1000],
+    flows: u32,
+    width: u32,
+    clock: ServerTicks,
+    link: LinkTicks,
+    tags: &'a [u64; 64],
+    share: &'a [u16; 64],
+    largest: &'a [u16; 64],
+    first: &'a [u16; 64],
+    waiting: &'a [u16; 64],
+    lengths: &[u16],
+) -> bool
+    requires { ⌜ (length (now lengths) ≡ 4096) × (now table ≡ costs) ⌝ }
+    ensures { λ r. ⌜ r ≡ formed (recordOf flows width (clock .0) (link .0) (now (tags .entry)) (now (share .entry))
+        (now (largest .entry)) (now (first .entry)) (now (waiting .entry))) (now (lengths .entry)) ⌝ }
 {
-    if !flow::in_range(w) {
+    if clock.0 < link.0 {
         return false;
     }
-    if !flow::tag_ok(w, clock, width) {
+    if CLOCK_END <= clock.0 {
         return false;
     }
-    flow::queue_ok(w, number, lengths)
-}
-
-impl Record {
-    // Every flow that counts, the sum of their shares and the leap width.
-    fn flows_ok(self, table: &[u32; 1000], lengths: &[u16]) -> bool
-        requires { ⌜ (self .flows ≤ 64) × (length (now lengths) ≡ 4096) × (now table ≡ costs) ⌝ }
-        ensures { λ r. ⌜ r ≡ flowsTested self (now (lengths .entry)) ⌝ }
-    {
-        let clock = self.clock;
-        let mut shares: u32 = 0;
-        let mut width: u64 = 0;
-        let mut f: u32 = 0;
-        while f < self.flows {
-            let at = f as usize;
-            let w = self.flow[at];
-            if !flow_ok(w, f, clock, self.width, lengths) {
-                return false;
-            }
-            let cost = cost::cost_in(table, w.share);
-            let ticks = flow::charge_ticks(w.largest, cost);
-            shares = shares + w.share as u32;
-            width = flow::larger_of(width, ticks);
-            f += 1;
-        }
-        (shares <= 1000) & (width == self.width as u64)
+    if !queues::are_formed(table, flows, width, share, largest, first, waiting, lengths) {
+        return false;
     }
-
-    // All fields of the flows beyond the number of flows are 0.
-    fn rest_ok(self) -> bool
-        requires { ⌜ self .flows ≤ 64 ⌝ }
-        ensures { λ r. ⌜ r ≡ restSpare self ⌝ }
-    {
-        let mut ok = true;
-        let mut f = self.flows as usize;
-        while f < 64 {
-            let w = self.flow[f];
-            ok = ok & flow::is_spare(w);
-            f += 1;
-        }
-        ok
-    }
-
-    pub(crate) fn is_formed(self, table: &[u32; 1000], lengths: &[u16]) -> bool
-        requires { ⌜ (length (now lengths) ≡ 4096) × (now table ≡ costs) ⌝ }
-        ensures { λ r. ⌜ r ≡ formed self (now (lengths .entry)) ⌝ }
-    {
-        if self.flows < 1 {
-            return false;
-        }
-        if 64 < self.flows {
-            return false;
-        }
-        if self.clock.0 < self.link.0 {
-            return false;
-        }
-        if CLOCK_END <= self.clock.0 {
-            return false;
-        }
-        if !self.flows_ok(table, lengths) {
-            return false;
-        }
-        self.rest_ok()
-    }
+    tags::are_formed(flows, width, clock, tags, waiting)
 }

@@ -1,129 +1,123 @@
-// A pick: document 01, Pick, steps 1 to 5, with refusals 1, 2, Idle, 10 in this order.
+// A pick: document 01, Pick, steps 1 to 5, with refusals 1, 2, Idle, 10 in this order. It has two steps of ours: choose
+// and leap, then advance and free.
 ghost use mathlib.Core.Path.{_≡_};
-ghost use Rattle.uplink.specs.Reply.{pickReply};
+ghost use Prim.Native.Nat.{_^_, _<_};
+ghost use lib.ListN.{length, set};
+ghost use Rattle.queues.specs.Queue.{placeOf};
+ghost use Rattle.uplink.specs.PickReply.{pickReply};
 ghost use Rattle.uplink.specs.State.{state, outcome};
-ghost use Rattle.uplink.specs.Ready.{Ready, Servable};
-ghost use Rattle.uplink.specs.Pick.{serveRule, restedRecord, chooseRule, pickRule};
+ghost use Rattle.uplink.specs.Pick.{goneOf, pickRule};
 use crate::PickReply;
 use crate::Picked;
 use crate::Record;
-use crate::Refusal;
-use flow::LinkTicks;
-use flow::ServerTicks;
+use crate::form;
+use reply::Refusal;
+use tags::LinkTicks;
+use tags::ServerTags;
+use tags::ServerTicks;
 
 // A pick is refused from this clock on: 2^62.
 const CLOCK_LIMIT: u64 = 4611686018427387904;
 
+// The packet that goes, and both clocks after it.
+pub struct Gone {
+    pub length: u16,
+    pub handle: u32,
+    // The length of the packet behind it.
+    pub behind: u16,
+    pub clock: ServerTicks,
+    pub link: LinkTicks,
+}
+
+// Step 4: the packet in front leaves, and both clocks go on by what it takes of the link.
+fn advance(
+    flow: u32,
+    first: u16,
+    clock: ServerTicks,
+    link: LinkTicks,
+    lengths: &mut [u16],
+    handles: &mut [u32],
+) -> Gone
+    requires { ⌜ (flow < 64) × (length (now lengths) ≡ 4096) × (length (now handles) ≡ 4096) ⌝ }
+    requires { ⌜ (clock .0 < 2 ^ 63) × (link .0 < 2 ^ 63) ⌝ }
+    ensures { λ r. ⌜ (r ≡ goneOf flow first (clock .0) (link .0) (now (lengths .entry)) (now (handles .entry)))
+        × (now (lengths .exit) ≡ set (now (lengths .entry)) (placeOf flow first 0) 0)
+        × (now (handles .exit) ≡ set (now (handles .entry)) (placeOf flow first 0) 0) ⌝ }
+{
+    let freed = queues::free(flow, first, lengths, handles);
+    let sent = cost::link_ticks(freed.length);
+    let server_time = clock.0 + sent;
+    let link_time = link.0 + sent;
+    Gone {
+        length: freed.length,
+        handle: freed.handle,
+        behind: freed.behind,
+        clock: ServerTicks(server_time),
+        link: LinkTicks(link_time),
+    }
+}
+
 impl Record {
-    // Steps 3 to 5: the clock leaps or not, the front packet of `flow` goes, and the next one comes to the front.
-    fn serve(
-        mut self,
-        table: &[u32; 1000],
-        flow: u32,
-        lengths: &mut [u16],
-        handles: &mut [u32],
-    ) -> Picked
-        requires { ⌜ Servable self flow (now table) (now lengths) (now handles) ⌝ }
-        ensures { λ r. ⌜ outcome (pickReply (r .reply)) (r .next) (now (lengths .exit)) (now (handles .exit))
-            ≡ serveRule (state self (now (lengths .entry)) (now (handles .entry))) flow ⌝ }
-    {
-        let f = flow as usize;
-        let w = self.flow[f];
-        let tag = w.tag;
-        let front = flow::place(flow, w.first, 0);
-        let behind = flow::place(flow, w.first, 1);
-        let length = lengths[front];
-        let handle = handles[front];
-        let following = lengths[behind];
-        lengths[front] = 0;
-        handles[front] = 0;
-        let leap = flow::leap(self.clock, self.width, tag);
-        let sent = flow::link_ticks(length);
-        let server_time = leap.clock.0 + sent;
-        let link_time = self.link.0 + sent;
-        let clock = ServerTicks(server_time);
-        let link = LinkTicks(link_time);
-        let cost = cost::cost_in(table, w.share);
-        let served = flow::served(w, clock, following, cost);
-        self.clock = clock;
-        self.link = link;
-        self.flow[f] = served;
-        Picked {
-            next: self,
-            reply: PickReply::Packet {
-                flow,
-                length,
-                handle,
-                tag,
-                leapt: leap.leapt,
-                clock,
-            },
-        }
-    }
-
-    // Step 1: nothing waits, so clock, link time and all tags become 0.
-    fn rested(mut self) -> Record
-        ensures { λ r. ⌜ r ≡ restedRecord self ⌝ }
-    {
-        self.clock.0 = 0;
-        self.link.0 = 0;
-        let mut f = 0;
-        while f < 64 {
-            let mut w = self.flow[f];
-            w.tag.0 = 0;
-            self.flow[f] = w;
-            f += 1;
-        }
-        self
-    }
-
-    // Step 2, Idle and refusal 10.
-    fn chosen(self, table: &[u32; 1000], lengths: &mut [u16], handles: &mut [u32]) -> Picked
-        requires { ⌜ Ready self (now table) (now lengths) (now handles) ⌝ }
-        ensures { λ r. ⌜ outcome (pickReply (r .reply)) (r .next) (now (lengths .exit)) (now (handles .exit))
-            ≡ chooseRule (state self (now (lengths .entry)) (now (handles .entry))) ⌝ }
-    {
-        let lead = self.choose();
-        if !lead.waits {
-            let next = self.rested();
-            return Picked {
-                next,
-                reply: PickReply::Idle,
-            };
-        }
-        if CLOCK_LIMIT <= self.clock.0 {
-            return Picked {
-                next: self,
-                reply: PickReply::Refused(Refusal::Clock),
-            };
-        }
-        self.serve(table, lead.flow, lengths, handles)
-    }
-
     // The next packet to send.
-    pub fn pick(self, lengths: &mut [u16], handles: &mut [u32]) -> Picked
+    pub fn pick(mut self, lengths: &mut [u16], handles: &mut [u32]) -> Picked
         ensures exact { λ r. ⌜ outcome (pickReply (r .reply)) (r .next) (now (lengths .exit)) (now (handles .exit))
             ≡ pickRule (state self (now (lengths .entry)) (now (handles .entry))) ⌝ }
     {
-        if lengths.len() != 4096 {
-            return Picked {
-                next: self,
-                reply: PickReply::Refused(Refusal::Memory),
-            };
-        }
-        if handles.len() != 4096 {
-            return Picked {
-                next: self,
-                reply: PickReply::Refused(Refusal::Memory),
-            };
-        }
         let table = cost::table();
-        if !self.is_formed(&table, lengths) {
-            return Picked {
-                next: self,
-                reply: PickReply::Refused(Refusal::Form),
-            };
+        let mut reply = PickReply::Idle;
+        if !queues::are_lent(lengths, handles) {
+            reply = PickReply::Refused(Refusal::Memory);
+        } else if !form::is_formed(
+            &table,
+            self.flows,
+            self.width,
+            self.clock,
+            self.link,
+            &self.tags.0,
+            &self.queues.share,
+            &self.queues.largest,
+            &self.queues.first,
+            &self.queues.waiting,
+            lengths,
+        ) {
+            reply = PickReply::Refused(Refusal::Form);
+        } else {
+            let lead = tags::choose(self.flows, &self.tags.0, &self.queues.waiting);
+            if !lead.waits {
+                self.clock.0 = 0;
+                self.link.0 = 0;
+                let none = ServerTags([0; 64]);
+                self.tags = none;
+            } else if CLOCK_LIMIT <= self.clock.0 {
+                reply = PickReply::Refused(Refusal::Clock);
+            } else {
+                let flow = lead.flow;
+                let tag = lead.tag;
+                let leap = tags::leap(self.clock, self.width, tag);
+                let first = queues::field(&self.queues.first, flow);
+                let waiting = queues::field(&self.queues.waiting, flow);
+                let gone = advance(flow, first, leap.clock, self.link, lengths, handles);
+                let clock = gone.clock;
+                let link = gone.link;
+                self.clock = clock;
+                self.link = link;
+                queues::put_field(&mut self.queues.first, flow, (first + 1) % 64);
+                queues::put_field(&mut self.queues.waiting, flow, waiting - 1);
+                if 1 < waiting {
+                    let cost = cost::cost_at(&table, queues::field(&self.queues.share, flow));
+                    let next = tags::front_tag(tag, clock, gone.behind, cost);
+                    tags::put_tag(&mut self.tags.0, flow, next);
+                }
+                reply = PickReply::Packet {
+                    flow,
+                    length: gone.length,
+                    handle: gone.handle,
+                    tag,
+                    leapt: leap.leapt,
+                    clock,
+                };
+            }
         }
-        self.chosen(&table, lengths, handles)
+        Picked { next: self, reply }
     }
 }

@@ -1,56 +1,220 @@
--- `uplink::Record::arrival` meets its contract: refusals 1 and 2 and what is past them are each one case of the rule.
+-- `uplink::Record::arrival` meets its contract: each way through it is one case of the rule of an arrival.
+-- What the checks leave is gathered once (`ready`), and every step on the way to the end asks for a part of it.
 -- Assumes nothing.
+use native.Mathlib.Omega.{arith}
 use borrow.Author.Needs.{needs}
-use Rattle.uplink.proofs.Readying.{ready}
-use Rattle.uplink.proofs.Checking.{checked-lengths, checked-handles, checked-unformed, checked-on}
+use Rattle.uplink.proofs.Checking.{both-lent, was-formed, checked-unlent, checked-unformed}
+use Rattle.uplink.proofs.Arriving.{Storable, storable, arrived-refused, arrived-first, arrived-behind}
 use Rattle.uplink.proofs.Record.arrival.Statement.{statement}
 use Rattle.uplink.proofs.Record.arrival.Tie as tie
 
-returns : tie.Need-returns
-returns c = search (needs, checked-lengths)
+-- from where the packet is taken to where the form was tested, from there to where the memories were, and to the begin
+abbrev replied : tie.After-enum-told → tie.Else2
+replied c = c .before .before .before .before .before .before
 
-returns-2 : tie.Need-returns-2
-returns-2 c = search (needs, checked-handles)
+abbrev lent-at : tie.Else2 → tie.Else1
+lent-at c = c .before .before .before .before .before .before .before .before .before .before .before .before
+
+abbrev begun : tie.Else1 → tie.Start
+begun c = c .before .before .before .before .before .before .before
+
+-- from where the number waiting is looked at to where the packet is taken
+abbrev stored-at : tie.After-put-field → tie.After-enum-told
+stored-at c = c .before .before .before .before .before .before .before .before .before .before .before .before .before .before .before
+
+-- what the checks leave
+ready : (c : tie.After-enum-told)
+    → let passed = lent-at (replied c) in
+    let args = begun passed .args in
+    Storable (args .t1) (args .flow) (args .length) (passed .before .before .before .before .table .result) (args .lengths .now) (args .handles .now)
+ready c =
+    let formed = replied c in
+    let passed = lent-at formed in
+    let args = begun passed .args in
+    storable (args .t1) (args .lengths .now) (args .handles .now) _ _ (args .handle) _ (passed .before .are-lent .ensures)
+    (passed .if1 .left) _ (formed .before .is-formed .ensures) (formed .if2 .left) _
+    (c .before .before .arrival-reply .ensures) (c .enum-told .given .1) _ (passed .before .before .before .before .table .ensures)
 
 table-requires : tie.Need-table-requires
 table-requires c κs = search needs
 
+are-lent-requires : tie.Need-are-lent-requires
+are-lent-requires c κs = search needs
+
 is-formed-requires : tie.Need-is-formed-requires
-is-formed-requires c κs = search needs
+is-formed-requires c κs =
+    let passed = c .before .before .before .before .before .before .before .before .before .before in
+    let args = begun passed .args in (
+      both-lent (args .lengths .now) (args .handles .now) _ (passed .before .are-lent .ensures) (passed .if1 .left) .0,
+      passed .before .before .before .before .table .ensures,
+    )
+
+arrival-reply-requires : tie.Need-arrival-reply-requires
+arrival-reply-requires c κs =
+    let formed = c .before .before .before in
+    was-formed _ (begun (lent-at formed) .args .lengths .now) _ (formed .before .is-formed .ensures) (formed .if2 .left) .few
+
+enum-told : tie.Need-enum-told
+enum-told c = search needs
+
+field-requires : tie.Need-field-requires
+field-requires c κs = ready (c .before .before) .flow
+
+field-requires-2 : tie.Need-field-requires-2
+field-requires-2 c κs = ready (c .before .before .before .before .before) .flow
+
+cast-bytes : tie.Need-cast-bytes
+cast-bytes c = let known = ready (c .before .before .before .before .before .before) in search needs
+
+store-requires : tie.Need-store-requires
+store-requires c κs = let known = ready (c .before .before .before .before .before .before .before .before) in (known .flow, known .lengths-lent, known .handles-lent)
+
+add-put-field : tie.Need-add-put-field
+add-put-field c = let known = ready (c .before .before .before .before .before .before .before .before .before .before .before .before .before .before) in omega (arith, known .room, c .before .before .before .before .before .before .before .before .field2 .ensures)
+
+put-field-requires : tie.Need-put-field-requires
+put-field-requires c κs = ready (c .before .before .before .before .before .before .before .before .before .before .before .before .before .before) .flow
+
+field-requires-3 : tie.Need-field-requires-3
+field-requires-3 c κs = ready (stored-at (c .before .before .before .before)) .flow
+
+cost-at-requires : tie.Need-cost-at-requires
+cost-at-requires c κs =
+    let known = ready (stored-at (c .before .before .before .before .before)) in
+    (omega (arith, known .share-low, c .field3 .ensures), omega (arith, known .share-high, c .field3 .ensures), known .table-right)
+
+tag-at-requires : tie.Need-tag-at-requires
+tag-at-requires c κs = ready (stored-at (c .before .before .before .before .before .before .before .before)) .flow
+
+front-tag-requires : tie.Need-front-tag-requires
+front-tag-requires c κs =
+    let known = ready (stored-at (c .before .before .before .before .before .before .before .before .before .before)) in
+    (omega (arith, known .tag, c .before .tag-at .ensures), known .clock)
+
+put-tag-requires : tie.Need-put-tag-requires
+put-tag-requires c κs = ready (stored-at (c .before .before .before .before .before .before .before .before .before .before .before .before)) .flow
+
+enum-told-2 : tie.Need-enum-told-2
+enum-told-2 c = search needs
 
 same-length : tie.Need-same-length
 same-length c = search needs
 
-returns-3 : tie.Need-returns-3
-returns-3 c = search (needs, checked-unformed)
-
-join-requires : tie.Need-join-requires
-join-requires c κs =
-    let passed = c .before .before .before in
-    let priced = passed .before .before .before .before in
-    ready _ _ _ _ _ (priced .table .ensures) (priced .before .before .if1 .left) (priced .before .if2 .left)
-    (passed .before .is-formed .ensures) (passed .if3 .left)
-
 same-length-2 : tie.Need-same-length-2
 same-length-2 c = search needs
+
+returns : tie.Need-returns
+returns c = search (needs, checked-unlent)
 
 same-length-3 : tie.Need-same-length-3
 same-length-3 c = search needs
 
+same-length-4 : tie.Need-same-length-4
+same-length-4 c = search needs
+
+returns-2 : tie.Need-returns-2
+returns-2 c =
+    let passed = c .before .before .before .before .before .before .before .before .before .before .before .before in
+    let args = begun passed .args in
+    checked-unformed (args .t1) (args .lengths .now) (args .handles .now) _ _ (passed .before .are-lent .ensures)
+    (passed .if1 .left) _ (c .before .is-formed .ensures) (c .if2 .taken)
+
+same-length-5 : tie.Need-same-length-5
+same-length-5 c = search needs
+
+same-length-6 : tie.Need-same-length-6
+same-length-6 c = search needs
+
+returns-3 : tie.Need-returns-3
+returns-3 c =
+    let fronted = c .before .before in
+    let tagged = fronted .before .before in
+    let costed = tagged .before .before .before in
+    let empty = costed .before .before .before .before .before in
+    let placed = empty .before in
+    let stored = placed .before .before .before .before .before .before in
+    let counted = stored .before .before .before in
+    let told = counted .before .before .before .before .before .before in
+    let formed = replied told in
+    let passed = lent-at formed in
+    let start = begun passed in
+    arrived-first (start .args .t1) (start .args .lengths .now) (start .args .handles .now) (start .args .flow)
+    (start .args .length) (start .args .handle) _ (passed .before .are-lent .ensures) (passed .if1 .left) _
+    (formed .before .is-formed .ensures) (formed .if2 .left) _ (told .before .before .arrival-reply .ensures)
+    (told .enum-told .given .1) _ _ _ _ _ (counted .before .before .before .field .ensures) (counted .field2 .ensures) (stored .store .ensures)
+    (placed .put-field .ensures) _ _ _ _ _ (empty .if3 .taken) (costed .before .field3 .ensures) (costed .cost-at .ensures)
+    (tagged .tag-at .ensures) (fronted .front-tag .ensures) (c .put-tag .ensures)
+
+same-length-7 : tie.Need-same-length-7
+same-length-7 c = search needs
+
+same-length-8 : tie.Need-same-length-8
+same-length-8 c = search needs
+
 returns-4 : tie.Need-returns-4
-returns-4 c = search (needs, checked-on)
+returns-4 c =
+    let placed = c .before in
+    let stored = placed .before .before .before .before .before .before in
+    let counted = stored .before .before .before in
+    let told = counted .before .before .before .before .before .before in
+    let formed = replied told in
+    let passed = lent-at formed in
+    let start = begun passed in
+    arrived-behind (start .args .t1) (start .args .lengths .now) (start .args .handles .now) (start .args .flow)
+    (start .args .length) (start .args .handle) _ (passed .before .are-lent .ensures) (passed .if1 .left) _
+    (formed .before .is-formed .ensures) (formed .if2 .left) _ (told .before .before .arrival-reply .ensures)
+    (told .enum-told .given .1) _ _ _ _ _ (counted .before .before .before .field .ensures) (counted .field2 .ensures) (stored .store .ensures)
+    (placed .put-field .ensures) (c .if3 .left)
+
+same-length-9 : tie.Need-same-length-9
+same-length-9 c = search needs
+
+same-length-10 : tie.Need-same-length-10
+same-length-10 c = search needs
+
+returns-5 : tie.Need-returns-5
+returns-5 c =
+    let formed = c .before .before .before .before .before .before in
+    let passed = lent-at formed in
+    let start = begun passed in
+    arrived-refused (start .args .t1) (start .args .lengths .now) (start .args .handles .now) (start .args .flow)
+    (start .args .length) (start .args .handle) _ (passed .before .are-lent .ensures) (passed .if1 .left) _
+    (formed .before .is-formed .ensures) (formed .if2 .left) _ (c .before .before .arrival-reply .ensures) _
+    (c .enum-told2 .given .1)
 
 pub arrival-spec : {M : Type 1} → statement M
 arrival-spec =
     tie.close
     (tie.spec
-    returns
-    returns-2
     table-requires
+    are-lent-requires
     is-formed-requires
+    arrival-reply-requires
+    enum-told
+    field-requires
+    field-requires-2
+    cast-bytes
+    store-requires
+    add-put-field
+    put-field-requires
+    field-requires-3
+    cost-at-requires
+    tag-at-requires
+    front-tag-requires
+    put-tag-requires
+    enum-told-2
     same-length
-    returns-3
-    join-requires
     same-length-2
+    returns
     same-length-3
-    returns-4)
+    same-length-4
+    returns-2
+    same-length-5
+    same-length-6
+    returns-3
+    same-length-7
+    same-length-8
+    returns-4
+    same-length-9
+    same-length-10
+    returns-5)

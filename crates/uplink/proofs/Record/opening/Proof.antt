@@ -1,25 +1,71 @@
 -- `uplink::Record::opening` meets its contract: each way through it is one case of the rule of an opening.
--- A memory that has not exactly 4,096 places is refused, and `open` does the rest.
 -- Assumes nothing.
+use native.Mathlib.Omega.{arith}
 use borrow.Author.Needs.{needs}
-use Rattle.uplink.proofs.Opens.{lengths-unlent, handles-unlent, both-lent}
+use Rattle.uplink.proofs.Opens.{openable, small-lists, opened-shares, width-fits, opening-refused, opening-done}
 use Rattle.uplink.proofs.Record.opening.Statement.{statement}
 use Rattle.uplink.proofs.Record.opening.Tie as tie
 
 blank-requires : tie.Need-blank-requires
 blank-requires c κs = search needs
 
-returns : tie.Need-returns
-returns c = search (needs, lengths-unlent)
+opening-reply-requires : tie.Need-opening-reply-requires
+opening-reply-requires c κs = search needs
 
-blank-requires-2 : tie.Need-blank-requires-2
-blank-requires-2 c κs = search needs
+enum-told : tie.Need-enum-told
+enum-told c = search needs
 
-returns-2 : tie.Need-returns-2
-returns-2 c = search (needs, handles-unlent)
+table-requires : tie.Need-table-requires
+table-requires c κs = search needs
 
-open-requires : tie.Need-open-requires
-open-requires c κs = search needs
+cast-flows : tie.Need-cast-flows
+cast-flows c =
+    let told = c .before in
+    let args = told .before .before .before .before .before .before .before .before .before .before .args in
+    omega (
+      arith,
+      openable (args .shares .now) (args .largest .now) (args .lengths .now) (args .handles .now) _
+          (told .before .before .opening-reply .ensures) (told .enum-told .given .1) .few,
+    )
+
+opened-requires : tie.Need-opened-requires
+opened-requires c κs =
+    let told = c .before in
+    let args = told .before .before .before .before .before .before .before .before .before .before .args in
+    small-lists (args .shares .now) (args .largest .now) (args .lengths .now) (args .handles .now) _
+    (told .before .before .opening-reply .ensures) (told .enum-told .given .1)
+
+widest-requires : tie.Need-widest-requires
+widest-requires c κs =
+    let opened = c .before .before .before .before in
+    let told = opened .before .before in
+    let args = told .before .before .before .before .before .before .before .before .before .before .args in (
+      openable (args .shares .now) (args .largest .now) (args .lengths .now) (args .handles .now) _
+          (told .before .before .opening-reply .ensures) (told .enum-told .given .1) .few,
+      opened .before .table .ensures,
+      opened-shares (args .shares .now) (args .largest .now) (args .lengths .now) (args .handles .now) _
+          (told .before .before .opening-reply .ensures) (told .enum-told .given .1) _ (opened .opened .ensures),
+    )
+
+clear-lengths-requires : tie.Need-clear-lengths-requires
+clear-lengths-requires c κs = search needs
+
+clear-handles-requires : tie.Need-clear-handles-requires
+clear-handles-requires c κs = search needs
+
+cast-next : tie.Need-cast-next
+cast-next c =
+    let opened = c .before .before .before .before .before .before .before .before .before .before .before .before .before in
+    let told = opened .before .before in
+    let args = told .before .before .before .before .before .before .before .before .before .before .args in
+    omega (
+      arith,
+      width-fits (args .shares .now) (args .largest .now) (args .lengths .now) (args .handles .now) _
+          (told .before .before .opening-reply .ensures) (told .enum-told .given .1) _ (opened .opened .ensures) _ (c .before .before .before .before .before .before .before .before .widest .ensures),
+    )
+
+enum-told-2 : tie.Need-enum-told-2
+enum-told-2 c = search needs
 
 same-length : tie.Need-same-length
 same-length c = search needs
@@ -27,18 +73,45 @@ same-length c = search needs
 same-length-2 : tie.Need-same-length-2
 same-length-2 c = search needs
 
-returns-3 : tie.Need-returns-3
-returns-3 c = search (needs, both-lent)
+returns : tie.Need-returns
+returns c =
+    let opened = c .before .before .before .before .before .before .before .before .before .before .before .before .before in
+    let told = opened .before .before in
+    let args = told .before .before .before .before .before .before .before .before .before .before .args in
+    opening-done (args .shares .now) (args .largest .now) (args .lengths .now) (args .handles .now) _
+    (told .before .before .opening-reply .ensures) (told .enum-told .given .1) _ (opened .opened .ensures) _ _ _ _
+    (told .before .before .before .before .before .blank .ensures) (c .before .before .before .before .before .before .before .before .widest .ensures) (c .before .before .before .before .before .before .clear-lengths .ensures) (c .before .before .clear-handles .ensures)
+
+same-length-3 : tie.Need-same-length-3
+same-length-3 c = search needs
+
+same-length-4 : tie.Need-same-length-4
+same-length-4 c = search needs
+
+returns-2 : tie.Need-returns-2
+returns-2 c =
+    let args = c .before .before .before .before .before .before .before .before .before .before .args in
+    opening-refused (args .shares .now) (args .largest .now) (args .lengths .now) (args .handles .now) _
+    (c .before .before .opening-reply .ensures) _ _ (c .before .before .before .before .before .blank .ensures) (c .enum-told2 .given .1)
 
 pub opening-spec : {M : Type 1} → statement M
 opening-spec =
     tie.close
     (tie.spec
     blank-requires
-    returns
-    blank-requires-2
-    returns-2
-    open-requires
+    opening-reply-requires
+    enum-told
+    table-requires
+    cast-flows
+    opened-requires
+    widest-requires
+    clear-lengths-requires
+    clear-handles-requires
+    cast-next
+    enum-told-2
     same-length
     same-length-2
-    returns-3)
+    returns
+    same-length-3
+    same-length-4
+    returns-2)

@@ -1,56 +1,251 @@
--- `uplink::Record::pick` meets its contract: refusals 1 and 2 and what is past them are each one case of the rule.
+-- `uplink::Record::pick` meets its contract: each way through it is one case of the rule of a pick.
+-- What the checks leave is gathered once (`ready`), and every step on the way to the end asks for a part of it.
 -- Assumes nothing.
+use native.Mathlib.Omega.{arith}
 use borrow.Author.Needs.{needs}
-use Rattle.uplink.proofs.Readying.{ready}
-use Rattle.uplink.proofs.Checking.{checked-lengths, checked-handles, checked-unformed, checked-on}
+use Rattle.uplink.proofs.Checking.{both-lent, checked-unlent, checked-unformed}
+use Rattle.uplink.proofs.Picking.{Servable, servable, tagged, leap-most, gone-most, picked-idle, picked-late, picked-more, picked-last}
 use Rattle.uplink.proofs.Record.pick.Statement.{statement}
 use Rattle.uplink.proofs.Record.pick.Tie as tie
 
-returns : tie.Need-returns
-returns c = search (needs, checked-lengths)
+-- from where the form was tested to where the memories were, and to the begin
+abbrev lent-at : tie.Else2 → tie.Else1
+lent-at c = c .before .before .before .before .before .before .before .before .before .before .before .before
 
-returns-2 : tie.Need-returns-2
-returns-2 c = search (needs, checked-handles)
+abbrev begun : tie.Else1 → tie.Start
+begun c = c .before .before .before .before .before .before .before
+
+-- from where the front packet has gone to where it was known that one goes
+abbrev gone-at : tie.After-advance → tie.Else4
+gone-at c = c .before .before .before .before .before .before .before .before .before .before .before .before .before
+
+-- what the checks leave
+ready : (c : tie.Else4)
+    → let chosen = c .before .before .before in
+    let passed = lent-at (chosen .before .before .before .before) in
+    let args = begun passed .args in
+    Servable (args .t1) (chosen .choose .result) (passed .before .before .before .before .table .result) (args .lengths .now) (args .handles .now)
+ready c =
+    let chosen = c .before .before .before in
+    let formed = chosen .before .before .before .before in
+    let passed = lent-at formed in
+    let args = begun passed .args in
+    servable (args .t1) (args .lengths .now) (args .handles .now) _ (passed .before .are-lent .ensures) (passed .if1 .left) _
+    (formed .before .is-formed .ensures) (formed .if2 .left) _ (chosen .choose .ensures)
+    (c .before .if3 .left) (c .if4 .left) _ (passed .before .before .before .before .table .ensures)
 
 table-requires : tie.Need-table-requires
 table-requires c κs = search needs
 
+are-lent-requires : tie.Need-are-lent-requires
+are-lent-requires c κs = search needs
+
 is-formed-requires : tie.Need-is-formed-requires
-is-formed-requires c κs = search needs
+is-formed-requires c κs =
+    let passed = c .before .before .before .before .before .before .before .before .before .before in
+    let args = begun passed .args in (
+      both-lent (args .lengths .now) (args .handles .now) _ (passed .before .are-lent .ensures) (passed .if1 .left) .0,
+      passed .before .before .before .before .table .ensures,
+    )
+
+choose-requires : tie.Need-choose-requires
+choose-requires c κs =
+    let formed = c .before .before .before in
+    let passed = lent-at formed in
+    let args = begun passed .args in
+    tagged (args .t1) (args .lengths .now) (args .handles .now) _ (passed .before .are-lent .ensures) (passed .if1 .left) _
+    (formed .before .is-formed .ensures) (formed .if2 .left)
+
+leap-requires : tie.Need-leap-requires
+leap-requires c κs = search needs
+
+field-requires : tie.Need-field-requires
+field-requires c κs = ready (c .before .before .before .before .before) .flow
+
+field-requires-2 : tie.Need-field-requires-2
+field-requires-2 c κs = ready (c .before .before .before .before .before .before .before .before) .flow
+
+advance-requires : tie.Need-advance-requires
+advance-requires c κs =
+    let soon = c .before .before .before .before .before .before .before .before .before .before .before .before in
+    let known = ready soon in
+    let leap = leap-most _ _ _ _ (c .before .before .before .before .before .before .before .before .before .leap .ensures) in
+    ((known .flow, known .lengths-lent, known .handles-lent), (omega (arith, leap, known .clock, known .width), omega (arith, known .link)))
+
+add-put-field : tie.Need-add-put-field
+add-put-field c = omega (arith, ready (gone-at (c .before .before .before .before .before .before .before)) .first-below, c .before .before .before .before .before .before .before .before .before .before .before .before .before .before .field .ensures)
+
+put-field-requires : tie.Need-put-field-requires
+put-field-requires c κs = ready (gone-at (c .before .before .before .before .before .before .before)) .flow
+
+sub-put-field : tie.Need-sub-put-field
+sub-put-field c = omega (arith, ready (gone-at (c .before .before .before .before .before .before .before .before .before)) .waits, c .before .before .before .before .before .before .before .before .before .before .before .before .before .field2 .ensures)
+
+put-field-requires-2 : tie.Need-put-field-requires-2
+put-field-requires-2 c κs = ready (gone-at (c .before .before .before .before .before .before .before .before .before)) .flow
+
+field-requires-3 : tie.Need-field-requires-3
+field-requires-3 c κs = ready (gone-at (c .before .before .before .before .before .before .before .before .before .before .before .before .before .before)) .flow
+
+cost-at-requires : tie.Need-cost-at-requires
+cost-at-requires c κs =
+    let known = ready (gone-at (c .before .before .before .before .before .before .before .before .before .before .before .before .before .before .before)) in
+    (omega (arith, known .share-low, c .field3 .ensures), omega (arith, known .share-high, c .field3 .ensures), known .table-right)
+
+front-tag-requires : tie.Need-front-tag-requires
+front-tag-requires c κs =
+    let gone = c .before .before .before .before .before .before .before .before .before .before .before .before .before .before .before .before in
+    let counted = gone .before .before .before .before in
+    let leapt = counted .before .before .before .before .before .before in
+    let soon = gone-at gone in
+    let args = begun (lent-at (soon .before .before .before .before .before .before .before)) .args in
+    let known = ready soon in
+    let short = rw (← counted .before .before .before .field .ensures) at (known .short) in
+    let leap = leap-most _ _ _ _ (leapt .leap .ensures) in
+    let late = gone-most (gone .advance .result) _ _ (leapt .leap .result .clock .0) (args .t1 .link .0) (args .lengths .now)
+    (args .handles .now) (gone .advance .ensures .0) short in
+    (known .tag, omega (arith, late, leap, known .clock, known .width))
+
+put-tag-requires : tie.Need-put-tag-requires
+put-tag-requires c κs = ready (gone-at (c .before .before .before .before .before .before .before .before .before .before .before .before .before .before .before .before .before .before)) .flow
 
 same-length : tie.Need-same-length
 same-length c = search needs
 
-returns-3 : tie.Need-returns-3
-returns-3 c = search (needs, checked-unformed)
-
-chosen-requires : tie.Need-chosen-requires
-chosen-requires c κs =
-    let passed = c .before .before .before in
-    let priced = passed .before .before .before .before in
-    ready _ _ _ _ _ (priced .table .ensures) (priced .before .before .if1 .left) (priced .before .if2 .left)
-    (passed .before .is-formed .ensures) (passed .if3 .left)
-
 same-length-2 : tie.Need-same-length-2
 same-length-2 c = search needs
+
+returns : tie.Need-returns
+returns c = search (needs, checked-unlent)
 
 same-length-3 : tie.Need-same-length-3
 same-length-3 c = search needs
 
+same-length-4 : tie.Need-same-length-4
+same-length-4 c = search needs
+
+returns-2 : tie.Need-returns-2
+returns-2 c =
+    let passed = c .before .before .before .before .before .before .before .before .before .before .before .before in
+    let args = begun passed .args in
+    checked-unformed (args .t1) (args .lengths .now) (args .handles .now) _ _ (passed .before .are-lent .ensures)
+    (passed .if1 .left) _ (c .before .is-formed .ensures) (c .if2 .taken)
+
+same-length-5 : tie.Need-same-length-5
+same-length-5 c = search needs
+
+same-length-6 : tie.Need-same-length-6
+same-length-6 c = search needs
+
+returns-3 : tie.Need-returns-3
+returns-3 c =
+    let chosen = c .before .before .before .before in
+    let formed = chosen .before .before .before .before in
+    let passed = lent-at formed in
+    let args = begun passed .args in
+    picked-idle (args .t1) (args .lengths .now) (args .handles .now) _ (passed .before .are-lent .ensures) (passed .if1 .left) _
+    (formed .before .is-formed .ensures) (formed .if2 .left) _ (chosen .choose .ensures)
+    (c .before .before .if3 .taken)
+
+same-length-7 : tie.Need-same-length-7
+same-length-7 c = search needs
+
+same-length-8 : tie.Need-same-length-8
+same-length-8 c = search needs
+
 returns-4 : tie.Need-returns-4
-returns-4 c = search (needs, checked-on)
+returns-4 c =
+    let chosen = c .before .before .before in
+    let formed = chosen .before .before .before .before in
+    let passed = lent-at formed in
+    let args = begun passed .args in
+    picked-late (args .t1) (args .lengths .now) (args .handles .now) _ (passed .before .are-lent .ensures) (passed .if1 .left) _
+    (formed .before .is-formed .ensures) (formed .if2 .left) _ (chosen .choose .ensures)
+    (c .before .if3 .left) (c .if4 .taken)
+
+same-length-9 : tie.Need-same-length-9
+same-length-9 c = search needs
+
+same-length-10 : tie.Need-same-length-10
+same-length-10 c = search needs
+
+returns-5 : tie.Need-returns-5
+returns-5 c =
+    let fronted = c .before .before in
+    let costed = fronted .before in
+    let more = costed .before .before .before .before .before in
+    let fewer = more .before in
+    let gone = fewer .before .before .before .before .before .before .before .before .before .before in
+    let counted = gone .before .before .before .before in
+    let soon = counted .before .before .before .before .before .before .before .before .before in
+    let chosen = soon .before .before .before in
+    let formed = chosen .before .before .before .before in
+    let passed = lent-at formed in
+    let args = begun passed .args in
+    picked-more (args .t1) (args .lengths .now) (args .handles .now) _ (passed .before .are-lent .ensures) (passed .if1 .left) _
+    (formed .before .is-formed .ensures) (formed .if2 .left) _ (chosen .choose .ensures)
+    (soon .before .if3 .left) (soon .if4 .left) _ _ _ _ _ _ _ _ (counted .before .before .before .before .before .before .leap .ensures) (counted .before .before .before .field .ensures)
+    (counted .field2 .ensures) (gone .advance .ensures) (fewer .before .before .put-field .ensures) (fewer .put-field2 .ensures) _ _ _ _
+    (more .if5 .taken) (costed .before .field3 .ensures) (costed .cost-at .ensures) (fronted .front-tag .ensures)
+    (c .put-tag .ensures)
+
+same-length-11 : tie.Need-same-length-11
+same-length-11 c = search needs
+
+same-length-12 : tie.Need-same-length-12
+same-length-12 c = search needs
+
+returns-6 : tie.Need-returns-6
+returns-6 c =
+    let fewer = c .before in
+    let gone = fewer .before .before .before .before .before .before .before .before .before .before in
+    let counted = gone .before .before .before .before in
+    let soon = counted .before .before .before .before .before .before .before .before .before in
+    let chosen = soon .before .before .before in
+    let formed = chosen .before .before .before .before in
+    let passed = lent-at formed in
+    let args = begun passed .args in
+    picked-last (args .t1) (args .lengths .now) (args .handles .now) _ (passed .before .are-lent .ensures) (passed .if1 .left) _
+    (formed .before .is-formed .ensures) (formed .if2 .left) _ (chosen .choose .ensures)
+    (soon .before .if3 .left) (soon .if4 .left) _ _ _ _ _ _ _ _ (counted .before .before .before .before .before .before .leap .ensures) (counted .before .before .before .field .ensures)
+    (counted .field2 .ensures) (gone .advance .ensures) (fewer .before .before .put-field .ensures) (fewer .put-field2 .ensures)
+    (c .if5 .left)
 
 pub pick-spec : {M : Type 1} → statement M
 pick-spec =
     tie.close
     (tie.spec
-    returns
-    returns-2
     table-requires
+    are-lent-requires
     is-formed-requires
+    choose-requires
+    leap-requires
+    field-requires
+    field-requires-2
+    advance-requires
+    add-put-field
+    put-field-requires
+    sub-put-field
+    put-field-requires-2
+    field-requires-3
+    cost-at-requires
+    front-tag-requires
+    put-tag-requires
     same-length
-    returns-3
-    chosen-requires
     same-length-2
+    returns
     same-length-3
-    returns-4)
+    same-length-4
+    returns-2
+    same-length-5
+    same-length-6
+    returns-3
+    same-length-7
+    same-length-8
+    returns-4
+    same-length-9
+    same-length-10
+    returns-5
+    same-length-11
+    same-length-12
+    returns-6)

@@ -1,0 +1,65 @@
+-- `tags::form::rest_ok` meets its contract. The loop's invariant: `any` is 0 where every tag looked at is.
+-- The measure is what is left of the 64 flows.
+-- Assumes nothing.
+use mathlib.Core.Path.{_≡_, refl, ap, _∙_}
+use mathlib.Core.Bool.{_||_}
+use Prim.Native.Nat.{_≤_, _-_}
+use native.Mathlib.Omega.{arith}
+use lib.Dec.{eqb, ltb}
+use lib.ListN.{getD}
+use borrow.Author.Needs.{needs}
+use Rattle.below.specs.Below.{allBelow}
+use Rattle.below.specs.Faults.{rest-none, rest-turn}
+use Rattle.tags.specs.Form.{tagsSpare}
+use Rattle.tags.proofs.form.rest_ok.Statement.{statement}
+use Rattle.tags.proofs.form.rest_ok.Tie as tie
+
+abbrev Inv-loop : tie.InvT-loop
+Inv-loop flows tags any₀ at₀ any at =
+    (flows ≤ at) × (at ≤ 64) × (eqb any 0 ≡ allBelow (λ f. ltb f flows || eqb (getD tags f 0) 0) at)
+
+abbrev μ-loop : tie.MeasureT-loop
+μ-loop flows tags any₀ at₀ any at = 64 - at
+
+loop-holds : tie.Need-loop-holds Inv-loop μ-loop
+loop-holds c = (search needs, search needs, rest-none _ _)
+
+mul-any : tie.Need-mul-any Inv-loop μ-loop
+mul-any c = search needs
+
+element-copy-out-any : tie.Need-element-copy-out-any Inv-loop μ-loop
+element-copy-out-any c = search needs
+
+add-at : tie.Need-add-at Inv-loop μ-loop
+add-at c = search needs
+
+loop-less : tie.Need-loop-less Inv-loop μ-loop
+loop-less c = search needs
+
+loop-again : tie.Need-loop-again Inv-loop μ-loop
+loop-again c =
+    let turn = c .before .before in
+    let args = turn .before .args in (
+      omega arith,
+      omega arith,
+      rest-turn (args .flows) (λ f. eqb (getD (args .tags .now) f 0) 0) (turn .loop .at) (turn .loop .any)
+          (getD (args .tags .now) (turn .loop .at) 0) (turn .loop .inv .0) refl (turn .loop .inv .2),
+    )
+
+returns : tie.Need-returns Inv-loop μ-loop
+unfolding tagsSpare
+returns c = c .before .loop .inv .2 ∙ ap (allBelow _) (omega arith)
+
+pub rest-ok-spec : {M : Type 1} → statement M
+rest-ok-spec =
+    tie.close
+    (tie.spec
+    Inv-loop
+    μ-loop
+    loop-holds
+    mul-any
+    element-copy-out-any
+    add-at
+    loop-less
+    loop-again
+    returns)
