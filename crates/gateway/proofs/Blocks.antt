@@ -1,132 +1,177 @@
--- A turn of the loop that reads a block, and of the one that writes it.
+-- How a block is read and written, word by word.
 -- Assumes nothing.
 use mathlib.Core.Path.{_≡_, refl, sym, ap, ap₂, _∙_}
 use mathlib.Core.Bool.{Bool, true, false, cond}
-use mathlib.Core.List.{List, [], _∷_, _++_, append-nil}
-use Prim.Native.Nat.{ℕ, suc, _+_, _*_, _/_, _%_, _^_, _≤_, _<_}
-use native.Mathlib.Nat.{zero-add}
-use native.Mathlib.Numerals.{add-one}
+use mathlib.Core.List.{List, [], _∷_, _++_, append-assoc, append-nil}
+use Prim.Native.Nat.{ℕ, _+_, _*_, _/_, _%_, _^_, _≤_, _<_}
 use native.Mathlib.Omega.{arith}
+use lib.ListN.{length, getD, set, take, drop, replicate, length-append, length-drop}
+use lib.Seq.{take-at, drop-at, drop-drop, drop-length}
 use mir.Val.{boolByte}
-use lib.ListN.{length, getD, set, take, drop, replicate, length-set}
-use lib.Seq.{paste-suc, take-all, take-suc, take-suc-set}
-use Rattle.flow.specs.Steps.{noFlow}
-use Rattle.flow.specs.declared.Flow.{Flow}
+use borrow.Rule.Slice.PartMut.{putMid}
+use Rattle.below.specs.Copied.{Copied, copied-more}
+use Rattle.reply.specs.Reply.{done, packet}
+use Rattle.queues.specs.Queues.{queuesOf}
+use Rattle.queues.specs.Opening.{field64}
+use Rattle.queues.specs.Laws.{field-length}
+use Rattle.tags.specs.Ticks.{ticks}
+use Rattle.tags.specs.declared.ServerTicks.{ServerTicks}
+use Rattle.uplink.specs.Record.{tagOf, linkTime, tagsOf}
 use Rattle.uplink.specs.declared.Record.{Record}
-use Rattle.uplink.specs.Record.{flowAt, moved, blank}
-use Rattle.uplink.specs.Reply.{done, packet}
-use Rattle.gateway.specs.Image.{queueWord, flowOf, wordsOf, recordOf}
-use Rattle.gateway.specs.Images.{all-read, flow-read, length-words, word-tag, word-queue}
+use Rattle.gateway.specs.Image.{fourAt, fieldWords, fieldIn, part, wordsOf, recordOf}
+use Rattle.gateway.specs.Images.{in-length, entry, words-length}
+use Rattle.gateway.specs.Step.{stepWords}
 
--- the record that a block tells, with its first f flows and the others all zeros
-abbrev readTo : List ℕ → ℕ → Record
-readTo words f =
-    moved (recordOf words) (getD words 1 0) (getD words 2 0)
-    (take f (recordOf words .flow) ++ drop f (replicate 64 noFlow))
+-- one entry more, its number and its value told by equations
+next-entry : (words : List ℕ) (n m : ℕ) (field : List ℕ) (x : ℕ) → n < 64 → m ≡ n + 1 → x ≡ getD (fieldIn words) n 0
+    → Copied (fieldIn words) (replicate 64 0) n field → Copied (fieldIn words) (replicate 64 0) m (set field n x)
+next-entry words n m field x h e v c =
+    rw (e, v) (copied-more (fieldIn words) (replicate 64 0) (in-length words) n field 0 (rw in-length h) c)
 
-pub record Reading (words : List ℕ) (next : Record) (f : ℕ) : Type 0 where
-  pub reached : f ≤ 64
-  pub so-far : next ≡ readTo words f
+-- a turn of the reading of a field: four entries
+pub entries-more : (words : List ℕ) (k : ℕ) (field : List ℕ) → k < 16
+    → Copied (fieldIn words) (replicate 64 0) (4 * k) field
+    → let word = getD words k 0 in
+    Copied (fieldIn words) (replicate 64 0) (4 * (k + 1))
+    (set (set (set (set field (4 * k) (word % 2 ^ 16)) (4 * k + 1) (word / 2 ^ 16 % 2 ^ 16)) (4 * k + 2)
+    (word / 2 ^ 32 % 2 ^ 16)) (4 * k + 3) (word / 2 ^ 48))
+entries-more words k field h c =
+    let z : 4 * k ≡ 4 * k + 0 = omega arith in
+    next-entry words (4 * k + 3) (4 * (k + 1)) _ _ (omega arith) (omega arith) (sym (entry words k 3 h (omega arith)))
+    (next-entry words (4 * k + 2) (4 * k + 3) _ _ (omega arith) (omega arith) (sym (entry words k 2 h (omega arith)))
+    (next-entry words (4 * k + 1) (4 * k + 2) _ _ (omega arith) (omega arith) (sym (entry words k 1 h (omega arith)))
+    (next-entry words (4 * k) (4 * k + 1) field _ (omega arith) (omega arith)
+    (sym (ap (λ n. getD (fieldIn words) n 0) z ∙ entry words k 0 h (omega arith))) c)))
 
--- the record with other fields, and with another flow at place f
-abbrev headed : Record → ℕ → ℕ → ℕ → ℕ → Record
-headed r flows width clock link =
-    record { flows = flows; width = width; clock = record { 0 = clock }; link = record { 0 = link }; flow = r .flow }
+-- the five words of a step
+pub step-made : (words : List ℕ) (r : Record) (f : ℕ) (tag : ServerTicks) (first waiting : ℕ) → tag .0 ≡ tagOf r f
+    → first ≡ fourAt (r .queues .first) (f / 4) → waiting ≡ fourAt (r .queues .waiting) (f / 4)
+    → set (set (set (set (set words 1 (r .clock .0)) 2 (r .link .0)) (3 + f) (tag .0)) (99 + f / 4) first) (115 + f / 4) waiting
+    ≡ stepWords words r f
+step-made words r f tag first waiting t a b = rw (t, a, b)
 
-abbrev withFlow : Record → ℕ → Flow → Record
-withFlow r f w =
-    record { flows = r .flows; width = r .width; clock = r .clock; link = r .link; flow = set (r .flow) f w }
+-- the record whose parts were read one by one
+pub record-read : (words tags share largest first waiting : List ℕ) → tags ≡ part words 3 64
+    → share ≡ fieldIn (part words 67 16) → largest ≡ fieldIn (part words 83 16) → first ≡ fieldIn (part words 99 16)
+    → waiting ≡ fieldIn (part words 115 16)
+    → record {
+      flows = getD words 0 0 % 2 ^ 32;
+      width = getD words 0 0 / 2 ^ 32;
+      clock = ticks (getD words 1 0);
+      link = linkTime (getD words 2 0);
+      tags = tagsOf tags;
+      queues = queuesOf share largest first waiting;
+    }
+    ≡ recordOf words
+unfolding recordOf
+record-read words tags share largest first waiting t s l f w = rw (t, s, l, f, w)
 
-module _ (words : List ℕ) (next : Record) where
-  pub reading-none : next ≡ blank
-      → Reading words
-      (headed next (getD words 0 0 % 2 ^ 32) (getD words 0 0 / 2 ^ 32) (getD words 1 0) (getD words 2 0)) 0
-  unfolding recordOf
-  reading-none e = record { reached = omega arith; so-far = rw e }
+-- a block w0 of which the first n words are now p
+pub record Filled (w0 : List ℕ) (n : ℕ) (p w : List ℕ) : Type 0 where
+  pub long : length p ≡ n
+  pub room : n ≤ length w0
+  pub so-far : w ≡ p ++ drop n w0
 
-  pub reading-more : (f : ℕ) (w : Flow) → Reading words next f → f < 64
-      → w ≡ flowOf (getD words (3 + 2 * f) 0) (getD words (4 + 2 * f) 0) → Reading words (withFlow next f w) (f + 1)
-  reading-more f w m h e =
+module _ (w0 : List ℕ) (n : ℕ) (p w : List ℕ) (F : Filled w0 n p w) where
+  pub filled-length : length w ≡ length w0
+  filled-length = rw (F .so-far, length-append, length-drop, F .long) (omega (arith, F .room))
+
+  -- and the next k of which are q
+  pub filled-more : (k : ℕ) (q : List ℕ) → length q ≡ k → n + k ≤ length w0
+      → Filled w0 (n + k) (p ++ q) (putMid n k w q)
+  filled-more k q h l =
       record {
-        reached = omega arith;
-        so-far = rw (m .so-far, e ∙ sym (flow-read words f h), add-one)
-            (ap (moved (recordOf words) (getD words 1 0) (getD words 2 0)) (simp zero-add at
-            (paste-suc (replicate 64 noFlow) 0 (recordOf words .flow) f noFlow (omega arith) (rw all-read h))));
+        long = length-append p q ∙ ap₂ _+_ (F .long) h;
+        room = l;
+        so-far = rw (
+          F .so-far,
+          take-at p (drop n w0) n (F .long),
+          drop-at p (drop n w0) n (F .long),
+          drop-drop k n w0,
+          append-assoc,
+        );
       }
 
-  flows-all : take 64 (recordOf words .flow) ++ drop 64 (replicate 64 noFlow) ≡ recordOf words .flow
-  flows-all = append-nil _ ∙ take-all 64 (recordOf words .flow) (omega (arith, all-read words))
+-- the first three words
+head-filled : (w0 : List ℕ) (a b c : ℕ) → 3 ≤ length w0 → Filled w0 3 (a ∷ b ∷ c ∷ []) (set (set (set w0 0 a) 1 b) 2 c)
+head-filled [] a b c h = absurd (omega arith)
+head-filled (x ∷ []) a b c h = absurd (omega arith)
+head-filled (x ∷ y ∷ []) a b c h = absurd (omega arith)
+head-filled (x ∷ y ∷ z ∷ rest) a b c h = record { long = refl; room = h; so-far = refl }
 
-  pub reading-all : (f : ℕ) → Reading words next f → 64 ≤ f → next ≡ recordOf words
-  unfolding recordOf
-  reading-all f m h = let e : f ≡ 64 = omega arith in m .so-far ∙ rw (e, flows-all)
+regroup : (a b c d e : List ℕ) → a ++ b ++ c ++ d ++ e ≡ a ++ (b ++ (c ++ (d ++ e)))
+regroup a b c d e = append-assoc (a ++ b ++ c) d e ∙ append-assoc (a ++ b) c (d ++ e) ∙ append-assoc a b (c ++ (d ++ e))
 
--- one more word of a block is that of s
-one-more : (words s : List ℕ) (i a : ℕ) → take i words ≡ take i s → a ≡ getD s i 0 → i < length words → i < length s
-    → take (suc i) (set words i a) ≡ take (suc i) s
-one-more words s i a e d h l = take-suc-set words i a h ∙ ap₂ (λ t x. t ++ (x ∷ [])) e d ∙ sym (take-suc s i 0 l)
+-- a record written part by part
+module _ (w0 : List ℕ) (long : length w0 ≡ 131) (r : Record) where
+  abbrev head : List ℕ
+  head = (r .flows + 2 ^ 32 * r .width) ∷ r .clock .0 ∷ r .link .0 ∷ []
 
--- the first i words of a block are those of s, which is as long
-pub record Begun (s words : List ℕ) (i : ℕ) : Type 0 where
-  pub same : length words ≡ length s
-  pub so-far : take i words ≡ take i s
+  abbrev block0 : List ℕ
+  block0 = set (set (set w0 0 (r .flows + 2 ^ 32 * r .width)) 1 (r .clock .0)) 2 (r .link .0)
 
-pub begun-more : {s words : List ℕ} {i : ℕ} (j a : ℕ) → Begun s words i → i < length s → a ≡ getD s i 0 → i ≡ j
-    → Begun s (set words j a) (suc i)
-begun-more {s} {words} {i} j a b h d e =
-    record {
-      same = length-set words j a ∙ b .same;
-      so-far = rw (← e) (one-more words s i a (b .so-far) d (omega (arith, b .same)) h);
-    }
+  pub filled-head : Filled w0 3 head block0
+  filled-head = head-filled w0 _ _ _ (omega (arith, long))
 
-pub begun-all : {s words : List ℕ} {i : ℕ} → Begun s words i → i ≡ length s → words ≡ s
-begun-all {s} {words} {i} b e =
-    sym (take-all i words (omega (arith, b .same))) ∙ b .so-far ∙ take-all i s (omega arith)
+  module _ (tags : List ℕ) (t : tags ≡ field64 (r .tags .0)) where
+    abbrev block1 : List ℕ
+    block1 = putMid 3 64 block0 tags
 
--- the words of the head and of the first f flows have been written
-pub record Written (r : Record) (words : List ℕ) (f : ℕ) : Type 0 where
-  pub reached : f ≤ 64
-  pub size : length words ≡ 131
-  pub begun : Begun (wordsOf r) words (3 + 2 * f)
+    pub filled-tags : Filled w0 67 (head ++ tags) block1
+    filled-tags = filled-more w0 3 head block0 filled-head 64 tags (rw t (field-length (r .tags .0))) (omega (arith, long))
 
-module _ (r : Record) (words : List ℕ) where
-  pub written-none : length words ≡ 131
-      → Written r (set (set (set words 0 (r .flows + 2 ^ 32 * r .width)) 1 (r .clock .0)) 2 (r .link .0)) 0
-  unfolding wordsOf
-  written-none h =
-      let n = length-words r in
-      let none : Begun (wordsOf r) words 0 = record { same = h ∙ sym n; so-far = refl } in
-      let one = begun-more 0 _ none (omega arith) refl refl in
-      let two = begun-more 1 _ one (omega arith) refl refl in
-      let three = begun-more 2 _ two (omega arith) refl refl in
-      record { reached = omega arith; size = three .same ∙ n; begun = three }
+    module _ (share : List ℕ) (s : share ≡ fieldWords (r .queues .share)) where
+      abbrev block2 : List ℕ
+      block2 = putMid 67 16 block1 share
 
-  pub written-more : (f queue : ℕ) → Written r words f → f < 64 → queue ≡ queueWord (flowAt r f)
-      → Written r (set (set words (3 + 2 * f) (flowAt r f .tag .0)) (4 + 2 * f) queue) (f + 1)
-  written-more f queue w h e =
-      let d : suc (3 + 2 * f) ≡ 4 + 2 * f = omega arith in
-      let n : suc (suc (3 + 2 * f)) ≡ 3 + 2 * (f + 1) = omega arith in
-      let l = length-words r in
-      let one = begun-more (3 + 2 * f) _ (w .begun) (omega arith) (sym (word-tag r f h)) refl in
-      let two = begun-more (4 + 2 * f) queue one (omega arith) (rw d (e ∙ sym (word-queue r f h))) d in
-      record { reached = omega arith; size = two .same ∙ l; begun = rw n at two }
+      pub filled-share : Filled w0 83 (head ++ tags ++ share) block2
+      filled-share = filled-more w0 67 _ block1 filled-tags 16 share (rw s (words-length _)) (omega (arith, long))
 
-  pub written-all : (f : ℕ) → Written r words f → 64 ≤ f → words ≡ wordsOf r
-  written-all f w h = let l = length-words r in begun-all (w .begun) (omega (arith, w .reached))
+      module _ (largest : List ℕ) (l : largest ≡ fieldWords (r .queues .largest)) where
+        abbrev block3 : List ℕ
+        block3 = putMid 83 16 block2 largest
 
-as-number : (t : Bool) → boolByte t ≡ cond t 1 0
+        pub filled-largest : Filled w0 99 (head ++ tags ++ share ++ largest) block3
+        filled-largest = filled-more w0 83 _ block2 filled-share 16 largest (rw l (words-length _)) (omega (arith, long))
+
+        module _ (first : List ℕ) (f : first ≡ fieldWords (r .queues .first)) where
+          abbrev block4 : List ℕ
+          block4 = putMid 99 16 block3 first
+
+          pub filled-first : Filled w0 115 (head ++ tags ++ share ++ largest ++ first) block4
+          filled-first = filled-more w0 99 _ block3 filled-largest 16 first (rw f (words-length _)) (omega (arith, long))
+
+          module _ (waiting : List ℕ) (w : waiting ≡ fieldWords (r .queues .waiting)) where
+            pub filled-all : Filled w0 131 (head ++ tags ++ share ++ largest ++ first ++ waiting) (putMid 115 16 block4 waiting)
+            filled-all = filled-more w0 115 _ block4 filled-first 16 waiting (rw w (words-length _)) (omega (arith, long))
+
+            pub record-written : putMid 115 16 block4 waiting ≡ wordsOf r
+            unfolding wordsOf
+            record-written =
+                let none : drop 131 w0 ≡ [] = ap (λ n. drop n w0) (sym long) ∙ drop-length w0 in
+                filled-all .so-far ∙ ap (λ rest. head ++ tags ++ share ++ largest ++ first ++ waiting ++ rest) none
+                ∙ append-nil (head ++ tags ++ share ++ largest ++ first ++ waiting) ∙ ap (λ rest. head ++ rest) (regroup tags share largest first waiting) ∙ rw (t, s, l, f, w)
+
+-- six stores make a list of six
+six : (l : List ℕ) (a b c d e f : ℕ) → length l ≡ 6
+    → set (set (set (set (set (set l 0 a) 1 b) 2 c) 3 d) 4 e) 5 f ≡ a ∷ b ∷ c ∷ d ∷ e ∷ f ∷ []
+six [] a b c d e f h = absurd (omega arith)
+six (_ ∷ []) a b c d e f h = absurd (omega arith)
+six (_ ∷ _ ∷ []) a b c d e f h = absurd (omega arith)
+six (_ ∷ _ ∷ _ ∷ []) a b c d e f h = absurd (omega arith)
+six (_ ∷ _ ∷ _ ∷ _ ∷ []) a b c d e f h = absurd (omega arith)
+six (_ ∷ _ ∷ _ ∷ _ ∷ _ ∷ []) a b c d e f h = absurd (omega arith)
+six (_ ∷ _ ∷ _ ∷ _ ∷ _ ∷ _ ∷ []) a b c d e f h = refl
+six (_ ∷ _ ∷ _ ∷ _ ∷ _ ∷ _ ∷ _ ∷ l) a b c d e f h = absurd (omega arith)
+
+as-number : (b : Bool) → boolByte b ≡ cond b 1 0
 as-number true = refl
 as-number false = refl
 
--- six stores make a reply of six words
-module _ (reply : List ℕ) (flow bytes handle tag clock : ℕ) (leapt : Bool) where
-  pub packet-written : length reply ≡ 6
-      → done (set (set (set (set (set (set reply 0 flow) 1 bytes) 2 handle) 3 tag) 4 (boolByte leapt)) 5 clock)
-      ≡ packet flow bytes handle tag leapt clock
-  packet-written h =
-      let s = flow ∷ bytes ∷ handle ∷ tag ∷ cond leapt 1 0 ∷ clock ∷ [] in
-      let none : Begun s reply 0 = record { same = h; so-far = refl } in
-      let two = begun-more 1 bytes (begun-more 0 flow none (omega arith) refl refl) (omega arith) refl refl in
-      let four = begun-more 3 tag (begun-more 2 handle two (omega arith) refl refl) (omega arith) refl refl in
-      let five = begun-more 4 (boolByte leapt) four (omega arith) (as-number leapt) refl in
-      ap done (begun-all (begun-more 5 clock five (omega arith) refl refl) refl)
+-- and so a reply
+pub packet-written : (reply : List ℕ) (flow bytes handle tag clock : ℕ) (leapt : Bool) → length reply ≡ 6
+    → done (set (set (set (set (set (set reply 0 flow) 1 bytes) 2 handle) 3 tag) 4 (boolByte leapt)) 5 clock)
+    ≡ packet flow bytes handle tag leapt clock
+packet-written reply flow bytes handle tag clock leapt h =
+    ap done (six reply flow bytes handle tag (boolByte leapt) clock h
+    ∙ ap (λ n. flow ∷ bytes ∷ handle ∷ tag ∷ n ∷ clock ∷ []) (as-number leapt))

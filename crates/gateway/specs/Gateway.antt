@@ -6,7 +6,7 @@ use mathlib.Core.List.{List}
 use Prim.Native.Nat.{ℕ, _+_, _*_, _^_}
 use lib.Dec.{eqb}
 use lib.ListN.{length}
-use Rattle.uplink.specs.Reply.{Reply, idle, done, refused, replyFlow}
+use Rattle.reply.specs.Reply.{Reply, idle, done, refused, replyFlow}
 use Rattle.uplink.specs.State.{State, Outcome, state}
 use Rattle.uplink.specs.Opening.{openingRule}
 use Rattle.uplink.specs.Arrival.{arrivalRule}

@@ -1,155 +1,182 @@
--- Words and record undo each other: a record whose fields fit their types is told by its 131 words, and any 131 words
--- of 64 bits are those of the record that they tell.
+-- Words and record undo each other: a record whose fields fit their types is told by its 131 words, and any 131 words are
+-- those of the record that they tell.
 -- Assumes nothing.
-use mathlib.Core.Path.{_≡_, refl, sym, ap, ap₂, subst, _∙_}
-use mathlib.Core.List.{List}
-use Prim.Native.Nat.{ℕ, zero, suc, _+_, _*_, _/_, _%_, _^_, _<_}
-use native.Mathlib.Nat.{not-suc-le-zero, le-of-suc-le-suc, zero-add, add-zero, add-suc, suc-add}
+use mathlib.Core.Path.{_≡_, refl, sym, ap, ap₂, _∙_}
+use mathlib.Core.List.{List, [], _∷_, _++_}
+use Prim.Native.Nat.{ℕ, zero, suc, _+_, _-_, _*_, _/_, _%_, _^_, _≤_, _<_}
+use native.Mathlib.Nat.{zero-add}
 use native.Mathlib.Omega.{arith}
-use native.Mathlib.Decide.{ℕ-discrete}
-use lib.ListN.{length, getD}
-use lib.Seq.{ext-getD}
-use Rattle.below.specs.Listed.{length-listed, listed-at}
-use Rattle.flow.specs.Steps.{noFlow}
-use Rattle.flow.specs.declared.Flow.{Flow}
+use lib.ListN.{length, getD, take, drop, length-append, length-drop, take-append-drop}
+use lib.Seq.{ext-getD, take-all, drop-cons, drop-drop, length-take-le, take-at, drop-at}
+use Rattle.below.specs.Listed.{listed, listed-at, length-listed}
+use Rattle.queues.specs.Opening.{field64}
+use Rattle.queues.specs.Laws.{field-at, field-length}
+use Rattle.uplink.specs.Record.{Rows}
 use Rattle.uplink.specs.declared.Record.{Record}
-use Rattle.uplink.specs.Record.{flowAt}
-use Rattle.gateway.specs.Image.{queueWord, flowOf, flowWords, wordsOf, recordOf}
+use Rattle.gateway.specs.Image.{fourAt, fieldWords, quarter, fieldIn, part, wordsOf, recordOf}
 
--- the fields of a flow fit their types
-pub record FlowFits (w : Flow) : Type 0 where
-  pub tag : w .tag .0 < 2 ^ 64
-  pub share : w .share < 2 ^ 16
-  pub largest : w .largest < 2 ^ 16
-  pub first : w .first < 2 ^ 16
-  pub waiting : w .waiting < 2 ^ 16
+-- ---- one field
 
--- the fields of a record fit their types, and it has 64 flows
+pub words-length : (field : List ℕ) → length (fieldWords field) ≡ 16
+unfolding fieldWords
+words-length field = length-listed (fourAt field) 0 16
+
+pub in-length : (words : List ℕ) → length (fieldIn words) ≡ 64
+unfolding fieldIn
+in-length words = length-listed _ 0 64
+
+pub field-word : (field : List ℕ) (k : ℕ) → k < 16 → getD (fieldWords field) k 0 ≡ fourAt field k
+unfolding fieldWords
+field-word field k h = listed-at (fourAt field) 0 16 k 0 h ∙ rw zero-add
+
+entry-at : (words : List ℕ) (f : ℕ) → f < 64 → getD (fieldIn words) f 0 ≡ quarter (getD words (f / 4) 0) (f % 4)
+unfolding fieldIn
+entry-at words f h = listed-at (λ k. quarter (getD words (k / 4) 0) (k % 4)) 0 64 f 0 h ∙ rw zero-add
+
+-- the four entries of word k
+pub entry : (words : List ℕ) (k j : ℕ) → k < 16 → j < 4 → getD (fieldIn words) (4 * k + j) 0 ≡ quarter (getD words k 0) j
+entry words k j h l =
+    let a : (4 * k + j) / 4 ≡ k = omega arith in
+    let b : (4 * k + j) % 4 ≡ j = omega arith in
+    entry-at words (4 * k + j) (omega arith) ∙ rw (a, b)
+
+-- any 16 words are those of the field that they tell
+pub words-of-field : (words : List ℕ) → length words ≡ 16 → fieldWords (fieldIn words) ≡ words
+words-of-field words h = ext-getD 0 (fieldWords (fieldIn words)) words (words-length (fieldIn words) ∙ sym h) λ k l.
+    let m : k < 16 = rw words-length at l in
+    let z : 4 * k ≡ 4 * k + 0 = omega arith in
+    let first = ap (λ n. getD (fieldIn words) n 0) z ∙ entry words k 0 m (omega arith) in
+    field-word (fieldIn words) k m
+    ∙ omega (arith, first, entry words k 1 m (omega arith), entry words k 2 m (omega arith), entry words k 3 m (omega arith))
+
+-- ---- the block
+
+pub field-same : (l : List ℕ) → length l ≡ 64 → field64 l ≡ l
+field-same l h = ext-getD 0 (field64 l) l (field-length l ∙ sym h) λ f k. field-at l f (rw field-length at k)
+
+part-length : (words : List ℕ) (a n : ℕ) → a + n ≤ length words → length (part words a n) ≡ n
+part-length words a n h = length-take-le n (drop a words) (rw length-drop (omega arith))
+
+-- a part and what is behind it
+part-on : (words : List ℕ) (a n e : ℕ) → a + n ≡ e → part words a n ++ drop e words ≡ drop a words
+part-on words a n e h = rw (← h, ← drop-drop n a words) (take-append-drop n (drop a words))
+
+module _ (words : List ℕ) (h : length words ≡ 131) where
+  -- the tags of a block are 64
+  pub tags-long : length (part words 3 64) ≡ 64
+  tags-long = part-length words 3 64 (omega (arith, h))
+
+  -- the parts of a block, one after the other
+  parts : getD words 0 0 ∷ getD words 1 0 ∷ getD words 2 0
+      ∷ (part words 3 64 ++ (part words 67 16 ++ (part words 83 16 ++ (part words 99 16 ++ part words 115 16))))
+      ≡ words
+  parts =
+      let last : part words 115 16 ≡ drop 115 words = take-all 16 (drop 115 words) (rw length-drop (omega (arith, h))) in
+      ap (λ l. getD words 0 0 ∷ getD words 1 0 ∷ getD words 2 0
+      ∷ (part words 3 64 ++ (part words 67 16 ++ (part words 83 16 ++ (part words 99 16 ++ l))))) last
+      ∙ rw (
+        part-on words 99 16 115 refl,
+        part-on words 83 16 99 refl,
+        part-on words 67 16 83 refl,
+        part-on words 3 64 67 refl,
+        ← drop-cons words 2 0 (omega (arith, h)),
+        ← drop-cons words 1 0 (omega (arith, h)),
+        ← drop-cons words 0 0 (omega (arith, h)),
+      )
+
+  -- any 131 words are the block of the record that they tell
+  pub words-of-record : wordsOf (recordOf words) ≡ words
+  unfolding wordsOf recordOf
+  words-of-record =
+      let head : getD words 0 0 % 2 ^ 32 + 2 ^ 32 * (getD words 0 0 / 2 ^ 32) ≡ getD words 0 0 = omega arith in
+      rw (
+        head,
+        field-same (part words 3 64) tags-long,
+        words-of-field (part words 67 16) (part-length words 67 16 (omega (arith, h))),
+        words-of-field (part words 83 16) (part-length words 83 16 (omega (arith, h))),
+        words-of-field (part words 99 16) (part-length words 99 16 (omega (arith, h))),
+        words-of-field (part words 115 16) (part-length words 115 16 (omega (arith, h))),
+      )
+      parts
+
+  -- a record that was read has its 64 rows
+  pub rows-read : Rows (recordOf words)
+  unfolding recordOf
+  rows-read =
+      record {
+        tags = tags-long;
+        queues =
+            record { share = in-length _; largest = in-length _; first = in-length _; waiting = in-length _ };
+      }
+
+-- ---- and back
+
+-- the fields of a record fit their types, and it has its 64 rows
 pub record Fits (r : Record) : Type 0 where
   pub flows : r .flows < 2 ^ 32
   pub width : r .width < 2 ^ 32
-  pub clock : r .clock .0 < 2 ^ 64
-  pub link : r .link .0 < 2 ^ 64
-  pub all : length (r .flow) ≡ 64
-  pub each : (f : ℕ) → f < 64 → FlowFits (flowAt r f)
+  pub rows : Rows r
+  pub share : (f : ℕ) → getD (r .queues .share) f 0 < 2 ^ 16
+  pub largest : (f : ℕ) → getD (r .queues .largest) f 0 < 2 ^ 16
+  pub first : (f : ℕ) → getD (r .queues .first) f 0 < 2 ^ 16
+  pub waiting : (f : ℕ) → getD (r .queues .waiting) f 0 < 2 ^ 16
 
-module _ (r : Record) where
-  length-flow-words : (f n : ℕ) → length (flowWords r f n) ≡ 2 * n
-  unfolding flowWords
-  length-flow-words f zero = refl
-  length-flow-words f (suc n) = let e = length-flow-words (suc f) n in omega arith
+-- the quarters of four numbers of 16 bits
+quarters : (field : List ℕ) → ((f : ℕ) → getD field f 0 < 2 ^ 16) → (k j : ℕ) → j < 4
+    → quarter (fourAt field k) j ≡ getD field (4 * k + j) 0
+quarters field h k zero l =
+    let z : 4 * k ≡ 4 * k + 0 = omega arith in
+    rw (← z) (omega (arith, h (4 * k)))
+quarters field h k (suc zero) l = omega (arith, h (4 * k), h (4 * k + 1))
+quarters field h k (suc (suc zero)) l = omega (arith, h (4 * k), h (4 * k + 1), h (4 * k + 2))
+quarters field h k (suc (suc (suc zero))) l = omega (arith, h (4 * k), h (4 * k + 1), h (4 * k + 2), h (4 * k + 3))
+quarters field h k (suc (suc (suc (suc j)))) l = absurd (omega arith)
 
-  -- the k-th flow's tag and its second word
-  tag-word : (f n k : ℕ) → k < n → getD (flowWords r f n) (2 * k) 0 ≡ flowAt r (f + k) .tag .0
-  unfolding flowWords
-  tag-word f zero k h = absurd (not-suc-le-zero h)
-  tag-word f (suc n) zero h = rw add-zero
-  tag-word f (suc n) (suc k) h = let e : 2 * suc k ≡ suc (suc (2 * k)) = omega arith in
-      rw (e, add-suc, ← suc-add) (tag-word (suc f) n k (le-of-suc-le-suc h))
+-- a field that fits is told by its words
+field-of-words : (field : List ℕ) → length field ≡ 64 → ((f : ℕ) → getD field f 0 < 2 ^ 16) → fieldIn (fieldWords field) ≡ field
+field-of-words field long h = ext-getD 0 (fieldIn (fieldWords field)) field (in-length _ ∙ sym long) λ f l.
+    let m : f < 64 = rw in-length at l in
+    let whole : 4 * (f / 4) + f % 4 ≡ f = omega arith in
+    entry-at (fieldWords field) f m
+    ∙ ap (λ word. quarter word (f % 4)) (field-word field (f / 4) (omega arith))
+    ∙ quarters field h (f / 4) (f % 4) (omega arith)
+    ∙ ap (λ n. getD field n 0) whole
 
-  queue-word : (f n k : ℕ) → k < n → getD (flowWords r f n) (suc (2 * k)) 0 ≡ queueWord (flowAt r (f + k))
-  unfolding flowWords
-  queue-word f zero k h = absurd (not-suc-le-zero h)
-  queue-word f (suc n) zero h = rw add-zero
-  queue-word f (suc n) (suc k) h = let e : 2 * suc k ≡ suc (suc (2 * k)) = omega arith in
-      rw (e, add-suc, ← suc-add) (queue-word (suc f) n k (le-of-suc-le-suc h))
-
-  pub length-words : length (wordsOf r) ≡ 131
-  unfolding wordsOf
-  length-words = let e = length-flow-words 0 64 in omega arith
-
-  pub word-tag : (f : ℕ) → f < 64 → getD (wordsOf r) (3 + 2 * f) 0 ≡ flowAt r f .tag .0
-  unfolding wordsOf
-  word-tag f h = let e : 3 + 2 * f ≡ suc (suc (suc (2 * f))) = omega arith in
-      rw e (tag-word 0 64 f h ∙ rw zero-add)
-
-  pub word-queue : (f : ℕ) → f < 64 → getD (wordsOf r) (4 + 2 * f) 0 ≡ queueWord (flowAt r f)
-  unfolding wordsOf
-  word-queue f h = let e : 4 + 2 * f ≡ suc (suc (suc (suc (2 * f)))) = omega arith in
-      rw e (queue-word 0 64 f h ∙ rw zero-add)
-
--- the flow of number f of a block
-pub flow-read : (words : List ℕ) (f : ℕ) → f < 64
-    → flowAt (recordOf words) f ≡ flowOf (getD words (3 + 2 * f) 0) (getD words (4 + 2 * f) 0)
-unfolding recordOf
-flow-read words f h =
-    listed-at (λ k. flowOf (getD words (3 + 2 * k) 0) (getD words (4 + 2 * k) 0)) 0 64 f noFlow h ∙ rw zero-add
-
--- a record that was read has 64 flows
-pub all-read : (words : List ℕ) → length (recordOf words .flow) ≡ 64
-unfolding recordOf
-all-read words = length-listed _ 0 64
-
--- the parts of a word, 16 bits each
-parts : (a b c d : ℕ) → a < 2 ^ 16 → b < 2 ^ 16 → c < 2 ^ 16
-    → let q = a + 2 ^ 16 * b + 2 ^ 32 * c + 2 ^ 48 * d in
-    (q % 2 ^ 16 ≡ a) × (q / 2 ^ 16 % 2 ^ 16 ≡ b) × (q / 2 ^ 32 % 2 ^ 16 ≡ c) × (q / 2 ^ 48 ≡ d)
-parts a b c d h i j = (omega arith, omega arith, omega arith, omega arith)
-
-flow-back : (w : Flow) → FlowFits w → flowOf (w .tag .0) (queueWord w) ≡ w
-unfolding flowOf queueWord
-flow-back w h =
-    let p = parts (w .share) (w .largest) (w .first) (w .waiting) (h .share) (h .largest) (h .first) in
-    rw (p .0, p .1, p .2, p .3)
-
-flows-back : (r : Record) → Fits r → recordOf (wordsOf r) .flow ≡ r .flow
-flows-back r h =
-    ext-getD noFlow (recordOf (wordsOf r) .flow) (r .flow) (all-read (wordsOf r) ∙ sym (h .all)) λ f l.
-    let m : f < 64 = rw all-read at l in
-    flow-read (wordsOf r) f m ∙ ap₂ flowOf (word-tag r f m) (word-queue r f m) ∙ flow-back (flowAt r f) (h .each f m)
+-- what is behind two lists, where what is behind the first is known
+drop-on : (l p q : List ℕ) (a n e : ℕ) → drop a l ≡ p ++ q → length p ≡ n → a + n ≡ e → drop e l ≡ q
+drop-on l p q a n e d h k = rw (← k, ← drop-drop n a l, d) (drop-at p q n h)
 
 -- a record that fits is the record of its block
 pub record-of-words : (r : Record) → Fits r → recordOf (wordsOf r) ≡ r
 unfolding recordOf wordsOf
-record-of-words r h =
-    let e : (r .flows + 2 ^ 32 * r .width) % 2 ^ 32 ≡ r .flows = omega (arith, h .flows) in
-    let d : (r .flows + 2 ^ 32 * r .width) / 2 ^ 32 ≡ r .width = omega (arith, h .flows) in
-    rw (e, d, flows-back r h)
-
--- a number is even or odd
-halves : (P : ℕ → Type 0) → ((f : ℕ) → P (2 * f)) → ((f : ℕ) → P (1 + 2 * f)) → (j : ℕ) → P j
-halves P even odd j = elim (ℕ-discrete (j % 2) 0) as (λ _. P j) [
-  | yes e ↦ let h : 2 * (j / 2) ≡ j = omega arith in subst P h (even (j / 2))
-  | no e ↦ let h : 1 + 2 * (j / 2) ≡ j = omega arith in subst P h (odd (j / 2))
-]
-
--- two blocks of 131 words are the same where the head's words and each flow's two are
-module _ (a b : List ℕ) (tags : (f : ℕ) → f < 64 → getD a (3 + 2 * f) 0 ≡ getD b (3 + 2 * f) 0)
-    (queues : (f : ℕ) → f < 64 → getD a (4 + 2 * f) 0 ≡ getD b (4 + 2 * f) 0) where
-  past-head : (j : ℕ) → j < 128 → getD a (3 + j) 0 ≡ getD b (3 + j) 0
-  past-head = halves (λ j. j < 128 → getD a (3 + j) 0 ≡ getD b (3 + j) 0)
-      (λ f h. tags f (omega arith))
-      (λ f h. let e : 3 + (1 + 2 * f) ≡ 4 + 2 * f = omega arith in rw e (queues f (omega arith)))
-
-  module _ (head : getD a 0 0 ≡ getD b 0 0) (clock : getD a 1 0 ≡ getD b 1 0) (link : getD a 2 0 ≡ getD b 2 0) where
-    word-same : (i : ℕ) → i < 131 → getD a i 0 ≡ getD b i 0
-    word-same zero h = head
-    word-same (suc zero) h = clock
-    word-same (suc (suc zero)) h = link
-    word-same (suc (suc (suc j))) h =
-        let e : suc (suc (suc j)) ≡ 3 + j = omega arith in rw e (past-head j (omega arith))
-
-    pub same-words : length a ≡ 131 → length b ≡ 131 → a ≡ b
-    same-words h l = ext-getD 0 a b (h ∙ sym l) (λ i k. word-same i (rw h at k))
-
-pub queue-back : (tag queue : ℕ) → queueWord (flowOf tag queue) ≡ queue
-unfolding flowOf queueWord
-queue-back tag queue = omega arith
-
-pub head-back : (word : ℕ) → word % 2 ^ 32 + 2 ^ 32 * (word / 2 ^ 32) ≡ word
-head-back word = omega arith
-
-module _ (words : List ℕ) where
-  tag-there : (f : ℕ) → f < 64 → getD (wordsOf (recordOf words)) (3 + 2 * f) 0 ≡ getD words (3 + 2 * f) 0
-  unfolding flowOf
-  tag-there f h = word-tag (recordOf words) f h ∙ ap (λ (w : Flow). w .tag .0) (flow-read words f h)
-
-  queue-there : (f : ℕ) → f < 64 → getD (wordsOf (recordOf words)) (4 + 2 * f) 0 ≡ getD words (4 + 2 * f) 0
-  queue-there f h = word-queue (recordOf words) f h ∙ ap queueWord (flow-read words f h) ∙ queue-back _ _
-
-  -- any 131 words are the block of the record that they tell
-  pub words-of-record : length words ≡ 131 → wordsOf (recordOf words) ≡ words
-  unfolding wordsOf recordOf
-  words-of-record h =
-      same-words (wordsOf (recordOf words)) words tag-there queue-there (head-back (getD words 0 0)) refl refl
-      (length-words (recordOf words)) h
+record-of-words r F =
+    let tags = field64 (r .tags .0) in
+    let share = fieldWords (r .queues .share) in
+    let largest = fieldWords (r .queues .largest) in
+    let first = fieldWords (r .queues .first) in
+    let waiting = fieldWords (r .queues .waiting) in
+    let rest = tags ++ (share ++ (largest ++ (first ++ waiting))) in
+    let behind-tags = drop-at tags (share ++ (largest ++ (first ++ waiting))) 64 (field-length (r .tags .0)) in
+    let behind-share = drop-on rest share _ 64 16 80 behind-tags (words-length _) refl in
+    let behind-largest = drop-on rest largest _ 80 16 96 behind-share (words-length _) refl in
+    let behind-first = drop-on rest first _ 96 16 112 behind-largest (words-length _) refl in
+    let low : (r .flows + 2 ^ 32 * r .width) % 2 ^ 32 ≡ r .flows = omega (arith, F .flows) in
+    let high : (r .flows + 2 ^ 32 * r .width) / 2 ^ 32 ≡ r .width = omega (arith, F .flows) in
+    rw (
+      low,
+      high,
+      behind-tags,
+      behind-share,
+      behind-largest,
+      behind-first,
+      take-at tags (share ++ (largest ++ (first ++ waiting))) 64 (field-length (r .tags .0)),
+      take-at share (largest ++ (first ++ waiting)) 16 (words-length _),
+      take-at largest (first ++ waiting) 16 (words-length _),
+      take-at first waiting 16 (words-length _),
+      take-all 16 waiting (omega (arith, words-length (r .queues .waiting))),
+      field-same (r .tags .0) (F .rows .tags),
+      field-of-words (r .queues .share) (F .rows .queues .share) (F .share),
+      field-of-words (r .queues .largest) (F .rows .queues .largest) (F .largest),
+      field-of-words (r .queues .first) (F .rows .queues .first) (F .first),
+      field-of-words (r .queues .waiting) (F .rows .queues .waiting) (F .waiting),
+    )

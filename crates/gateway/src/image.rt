@@ -1,36 +1,57 @@
-// The record as a block of 131 words, and back: specs/Image.antt.
+// The record as a block of 131 words, and back: specs/Image.antt. The words stand in the record's own order.
 // Nothing is tested here: any words are a record's, and the form test is in the calls.
 ghost use mathlib.Core.Path.{_≡_};
+ghost use Prim.Native.Nat.{_<_};
 ghost use lib.ListN.{length};
-ghost use Rattle.uplink.specs.Pick.{restedRecord};
-ghost use Rattle.gateway.specs.Image.{queueWord, flowOf, wordsOf, recordOf};
-ghost use Rattle.gateway.specs.Step.{Stepped};
-use flow::Flow;
-use flow::ServerTicks;
+ghost use Rattle.queues.specs.Opening.{field64};
+ghost use Rattle.gateway.specs.Image.{fourAt, fieldWords, fieldIn, wordsOf, recordOf};
+ghost use Rattle.gateway.specs.Step.{stepWords};
 use uplink::Record;
 
-// A flow from its two words.
-fn flow_of(tag: u64, queue: u64) -> Flow
-    ensures { λ r. ⌜ r ≡ flowOf tag queue ⌝ }
+// The 64 tags from their words.
+fn tags_in(words: &[u64]) -> [u64; 64]
+    requires { ⌜ length (now words) ≡ 64 ⌝ }
+    ensures { λ r. ⌜ r ≡ now (words .entry) ⌝ }
 {
-    Flow {
-        tag: ServerTicks(tag),
-        share: (queue % 65536) as u16,
-        largest: (queue / 65536 % 65536) as u16,
-        first: (queue / 4294967296 % 65536) as u16,
-        waiting: (queue / 281474976710656) as u16,
+    let mut tags: [u64; 64] = [0; 64];
+    let mut k = 0;
+    while k < 64 {
+        tags[k] = words[k];
+        k += 1;
     }
+    tags
 }
 
-// The second word of a flow.
-fn queue_word(w: Flow) -> u64
-    ensures { λ r. ⌜ r ≡ queueWord w ⌝ }
+// One field of the 64 flows from its 16 words, four flows to a word.
+fn field_in(words: &[u64]) -> [u16; 64]
+    requires { ⌜ length (now words) ≡ 16 ⌝ }
+    ensures { λ r. ⌜ r ≡ fieldIn (now (words .entry)) ⌝ }
 {
-    let share = w.share as u64;
-    let largest = w.largest as u64;
-    let first = w.first as u64;
-    let waiting = w.waiting as u64;
-    share + 65536 * largest + 4294967296 * first + 281474976710656 * waiting
+    let mut field: [u16; 64] = [0; 64];
+    let mut k = 0;
+    while k < 16 {
+        let word = words[k];
+        field[4 * k] = (word % 65536) as u16;
+        field[4 * k + 1] = (word / 65536 % 65536) as u16;
+        field[4 * k + 2] = (word / 4294967296 % 65536) as u16;
+        field[4 * k + 3] = (word / 281474976710656) as u16;
+        k += 1;
+    }
+    field
+}
+
+// All the tags at once.
+fn set_tags(tags: &mut [u64; 64], all: [u64; 64])
+    ensures { λ _. ⌜ now (tags .exit) ≡ all ⌝ }
+{
+    *tags = all;
+}
+
+// All the entries of a field at once.
+fn set_field(field: &mut [u16; 64], all: [u16; 64])
+    ensures { λ _. ⌜ now (field .exit) ≡ all ⌝ }
+{
+    *field = all;
 }
 
 // The record that a block tells.
@@ -38,20 +59,60 @@ pub(crate) fn record_of(words: &[u64]) -> Record
     requires { ⌜ length (now words) ≡ 131 ⌝ }
     ensures { λ r. ⌜ r ≡ recordOf (now (words .entry)) ⌝ }
 {
-    let mut next = Record::blank();
-    next.flows = (words[0] % 4294967296) as u32;
-    next.width = (words[0] / 4294967296) as u32;
-    next.clock.0 = words[1];
-    next.link.0 = words[2];
-    let mut f = 0;
-    while f < 64 {
-        let tag = words[3 + 2 * f];
-        let queue = words[4 + 2 * f];
-        let w = flow_of(tag, queue);
-        next.flow[f] = w;
-        f += 1;
+    let mut r = Record::blank();
+    r.flows = (words[0] % 4294967296) as u32;
+    r.width = (words[0] / 4294967296) as u32;
+    r.clock.0 = words[1];
+    r.link.0 = words[2];
+    set_tags(&mut r.tags.0, tags_in(&words[3..67]));
+    set_field(&mut r.queues.share, field_in(&words[67..83]));
+    set_field(&mut r.queues.largest, field_in(&words[83..99]));
+    set_field(&mut r.queues.first, field_in(&words[99..115]));
+    set_field(&mut r.queues.waiting, field_in(&words[115..131]));
+    r
+}
+
+// A 16-bit number in 64 bits.
+fn wide(x: u16) -> u64
+    ensures { λ r. ⌜ (r ≡ x) × (r < 65536) ⌝ }
+{
+    x as u64
+}
+
+// The word of four entries of a field, from 4 k on.
+fn word_at(field: &[u16; 64], k: usize) -> u64
+    requires { ⌜ k < 16 ⌝ }
+    ensures { λ r. ⌜ r ≡ fourAt (now (field .entry)) k ⌝ }
+{
+    let a = wide(field[4 * k]);
+    let b = wide(field[4 * k + 1]);
+    let c = wide(field[4 * k + 2]);
+    let d = wide(field[4 * k + 3]);
+    a + 65536 * b + 4294967296 * c + 281474976710656 * d
+}
+
+// The 16 words of a field.
+fn write_field(field: &[u16; 64], words: &mut [u64])
+    requires { ⌜ length (now words) ≡ 16 ⌝ }
+    ensures { λ _. ⌜ now (words .exit) ≡ fieldWords (now (field .entry)) ⌝ }
+{
+    let mut k = 0;
+    while k < 16 {
+        words[k] = word_at(field, k);
+        k += 1;
     }
-    next
+}
+
+// The words of the 64 tags.
+pub(crate) fn write_tags(tags: &[u64; 64], words: &mut [u64])
+    requires { ⌜ length (now words) ≡ 64 ⌝ }
+    ensures { λ _. ⌜ now (words .exit) ≡ field64 (now (tags .entry)) ⌝ }
+{
+    let mut k = 0;
+    while k < 64 {
+        words[k] = tags[k];
+        k += 1;
+    }
 }
 
 // The block of a record.
@@ -62,38 +123,24 @@ pub(crate) fn write_record(r: Record, words: &mut [u64])
     words[0] = r.flows as u64 + 4294967296 * (r.width as u64);
     words[1] = r.clock.0;
     words[2] = r.link.0;
-    let mut f = 0;
-    while f < 64 {
-        let w = r.flow[f];
-        words[3 + 2 * f] = w.tag.0;
-        words[4 + 2 * f] = queue_word(w);
-        f += 1;
-    }
+    write_tags(&r.tags.0, &mut words[3..67]);
+    write_field(&r.queues.share, &mut words[67..83]);
+    write_field(&r.queues.largest, &mut words[83..99]);
+    write_field(&r.queues.first, &mut words[99..115]);
+    write_field(&r.queues.waiting, &mut words[115..131]);
 }
 
-// The block of a record that is one step of `flow` past the record of the block: four words change.
+// The words that a step of `flow` changes in a block: five.
 pub(crate) fn write_step(r: Record, flow: u32, words: &mut [u64])
-    requires { ⌜ (length (now words) ≡ 131) × Stepped (recordOf (now words)) r flow ⌝ }
-    ensures { λ _. ⌜ now (words .exit) ≡ wordsOf r ⌝ }
+    requires { ⌜ (length (now words) ≡ 131) × (flow < 64) ⌝ }
+    ensures { λ _. ⌜ now (words .exit) ≡ stepWords (now (words .entry)) r flow ⌝ }
 {
     let f = flow as usize;
-    let w = r.flow[f];
+    let k = f / 4;
+    let tag = tags::tag_at(&r.tags.0, flow);
     words[1] = r.clock.0;
     words[2] = r.link.0;
-    words[3 + 2 * f] = w.tag.0;
-    words[4 + 2 * f] = queue_word(w);
-}
-
-// The block after Idle: clock, link time and all tags are 0.
-pub(crate) fn write_rest(words: &mut [u64])
-    requires { ⌜ length (now words) ≡ 131 ⌝ }
-    ensures { λ _. ⌜ now (words .exit) ≡ wordsOf (restedRecord (recordOf (now (words .entry)))) ⌝ }
-{
-    words[1] = 0;
-    words[2] = 0;
-    let mut f = 0;
-    while f < 64 {
-        words[3 + 2 * f] = 0;
-        f += 1;
-    }
+    words[3 + f] = tag.0;
+    words[99 + k] = word_at(&r.queues.first, k);
+    words[115 + k] = word_at(&r.queues.waiting, k);
 }

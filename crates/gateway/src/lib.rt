@@ -1,17 +1,22 @@
 // The scheduler for C and Rust: the three calls of the crate `uplink` over a block of 131 words that the caller keeps.
+// An arrival or a pick writes its words back on every path, a refused one the same as they were: so no copy of the
+// record is left in the machine code.
 // include/uplink.h says to the caller what is lent and what each number means.
 ghost use mathlib.Core.Path.{_≡_};
 ghost use mathlib.Core.List.{[]};
 ghost use lib.ListN.{length};
-ghost use Rattle.uplink.specs.Reply.{done, packet};
+ghost use Prim.Native.Nat.{_<_};
+ghost use Rattle.reply.specs.Reply.{done, packet};
+ghost use Rattle.uplink.specs.PickReply.{pickReply};
 ghost use Rattle.gateway.specs.Gateway.{answered, lending};
 ghost use Rattle.gateway.specs.Gateway.{gatewayOpening, gatewayArrival, gatewayPick};
+ghost use Rattle.gateway.specs.Step.{flowIn};
 
 mod image;
 
-use flow::ServerTicks;
-use uplink::ArrivalReply;
-use uplink::OpeningReply;
+use reply::ArrivalReply;
+use reply::OpeningReply;
+use tags::ServerTicks;
 use uplink::PickReply;
 use uplink::Record;
 
@@ -102,12 +107,30 @@ pub extern "C" fn gateway_arrival(
     let held = image::record_of(block);
     let arrived = held.arrival(flow, length, handle, lengths, handles);
     let answer = arrived.reply;
-    if let ArrivalReply::Refused(why) = answer {
-        return why.number();
-    }
     let next = arrived.next;
-    image::write_step(next, flow, block);
-    DONE
+    image::write_step(next, flow % 64, block);
+    match answer {
+        ArrivalReply::Done => DONE,
+        ArrivalReply::Refused(why) => why.number(),
+    }
+}
+
+// The flow whose words a pick writes.
+fn flow_of(answer: PickReply) -> u32
+    ensures { λ r. ⌜ (r ≡ flowIn (pickReply answer)) × (r < 64) ⌝ }
+{
+    match answer {
+        PickReply::Refused(_) => 0,
+        PickReply::Idle => 0,
+        PickReply::Packet {
+            flow,
+            length: _,
+            handle: _,
+            tag: _,
+            leapt: _,
+            clock: _,
+        } => flow % 64,
+    }
 }
 
 // The packet to send next.
@@ -132,10 +155,13 @@ pub extern "C" fn gateway_pick(
     let held = image::record_of(block);
     let picked = held.pick(lengths, handles);
     let answer = picked.reply;
+    let flow = flow_of(answer);
+    let next = picked.next;
+    image::write_step(next, flow, block);
     match answer {
         PickReply::Refused(why) => why.number(),
         PickReply::Idle => {
-            image::write_rest(block);
+            image::write_tags(&next.tags.0, &mut block[3..67]);
             IDLE
         }
         PickReply::Packet {
@@ -146,8 +172,6 @@ pub extern "C" fn gateway_pick(
             leapt,
             clock,
         } => {
-            let next = picked.next;
-            image::write_step(next, flow, block);
             write_packet(flow, length, handle, tag, leapt, clock, reply);
             DONE
         }

@@ -4,13 +4,14 @@ use mathlib.Core.Path.{_≡_}
 use mathlib.Core.Bool.{Bool, cond}
 use mathlib.Core.List.{List, [], _∷_}
 use Prim.Native.Nat.{ℕ}
-use Rattle.flow.specs.declared.ServerTicks.{ServerTicks}
-use Rattle.uplink.specs.declared.Refusal.{Refusal}
-use Rattle.uplink.specs.declared.OpeningReply.{OpeningReply}
-use Rattle.uplink.specs.declared.ArrivalReply.{ArrivalReply}
+use Rattle.tags.specs.declared.ServerTicks.{ServerTicks}
+use Rattle.reply.specs.declared.Refusal.{Refusal}
+use Rattle.reply.specs.declared.OpeningReply.{OpeningReply}
+use Rattle.reply.specs.declared.ArrivalReply.{ArrivalReply}
 use Rattle.uplink.specs.declared.PickReply.{PickReply}
-use Rattle.uplink.specs.Reply.{idle, refusal, openingReply, arrivalReply, pickReply, replyNumber, replyFlow}
-use Rattle.uplink.specs.Replies.{told}
+use Rattle.reply.specs.Reply.{idle, refusal, openingReply, arrivalReply, replyNumber, replyFlow}
+use Rattle.uplink.specs.PickReply.{pickReply}
+use Rattle.reply.specs.Replies.{told}
 use Rattle.lines.specs.Line.{letterO, letterA, letterP}
 use Rattle.lines.specs.Output.{lineText, openingLine, arrivalLine, pickLine, Written}
 

@@ -14,7 +14,8 @@ use Rattle.uplink.specs.declared.Opened.{Opened}
 use Rattle.uplink.specs.declared.Arrived.{Arrived}
 use Rattle.uplink.specs.declared.Picked.{Picked}
 use Rattle.uplink.specs.declared.Record.{Record}
-use Rattle.uplink.specs.Reply.{openingReply, arrivalReply, pickReply}
+use Rattle.reply.specs.Reply.{openingReply, arrivalReply}
+use Rattle.uplink.specs.PickReply.{pickReply}
 use Rattle.uplink.specs.State.{state, outcome}
 use Rattle.uplink.specs.Opening.{openingRule}
 use Rattle.uplink.specs.Arrival.{arrivalRule}

@@ -4,7 +4,7 @@ use mathlib.Core.Path.{_≡_}
 use mathlib.Core.List.{List, [], _∷_, _++_}
 use Prim.Native.Nat.{ℕ, _≤_, _<_}
 use lib.ListN.{length, take, drop}
-use Rattle.uplink.specs.Reply.{Reply, idle, done, refused, replyNumber, replyFlow}
+use Rattle.reply.specs.Reply.{Reply, idle, done, refused, replyNumber, replyFlow}
 use Rattle.lines.specs.Text.{space, lineFeed}
 use Rattle.lines.specs.Number.{decimal}
 use Rattle.lines.specs.Line.{letterO, letterA, letterP}

@@ -3,16 +3,17 @@ ghost use mathlib.Core.Path.{_≡_};
 ghost use mathlib.Core.Bool.{cond};
 ghost use Prim.Native.Nat.{_+_, _*_, _≤_};
 ghost use lib.ListN.{length};
-ghost use Rattle.uplink.specs.Reply.{idle, refusal, openingReply, arrivalReply, pickReply};
+ghost use Rattle.reply.specs.Reply.{idle, refusal, openingReply, arrivalReply};
+ghost use Rattle.uplink.specs.PickReply.{pickReply};
 ghost use Rattle.lines.specs.Text.{Put};
 ghost use Rattle.lines.specs.Output.{fieldText, lineText};
 ghost use Rattle.lines.specs.Output.{badLine, openingLine, arrivalLine, pickLine};
 ghost use Rattle.lines.specs.Output.{Spelt, Written};
 use crate::text::append;
-use uplink::ArrivalReply;
-use uplink::OpeningReply;
+use reply::ArrivalReply;
+use reply::OpeningReply;
+use reply::Refusal;
 use uplink::PickReply;
-use uplink::Refusal;
 
 // A number in decimal digits: the bytes of `text` from `from` on.
 pub struct Decimal {

@@ -14,7 +14,7 @@ use Rattle.below.specs.Below.{allBelow-at, allBelow-of}
 use Rattle.below.specs.Listed.{listed, listed-at, length-listed}
 use Rattle.below.specs.Truth.{both-true}
 use Rattle.cost.specs.Cost.{within, within-of, within-bounds}
-use Rattle.reply.specs.Reply.{done, refused}
+use Rattle.reply.specs.Reply.{Reply, done, refused}
 use Rattle.reply.specs.Replies.{refused-done}
 use Rattle.queues.specs.Queue.{Queue, queueOf, noQueue, placeOf}
 use Rattle.queues.specs.Queues.{queueAt, Sized}
@@ -102,19 +102,26 @@ pub record Joinable (flows f n largest waiting : ℕ) : Type 0 where
   pub short : n ≤ largest
   pub room : waiting < 64
 
-pub join-done : (flows f n largest waiting : ℕ) → joinReply flows f n largest waiting ≡ done []
-    → Joinable flows f n largest waiting
+-- what holds of a packet that is taken, and of one that is refused with 7, 8 or 9, holds of the reply
+pub join-cases : (flows f n largest waiting : ℕ) (P : Reply → Type 0) → (Joinable flows f n largest waiting → P (done []))
+    → ((number : ℕ) → 7 ≤ number → number ≤ 9 → P (refused number 0)) → P (joinReply flows f n largest waiting)
 unfolding joinReply
-join-done flows f n largest waiting = go (ltb f flows) refl (within 1 largest n) refl (ltb waiting 64) refl
+join-cases flows f n largest waiting P takes refuses =
+    go (ltb f flows) refl (within 1 largest n) refl (ltb waiting 64) refl
   where
     go : (a : Bool) → ltb f flows ≡ a → (b : Bool) → within 1 largest n ≡ b → (c : Bool) → ltb waiting 64 ≡ c
-        → cond a (cond b (cond c (done []) (refused 9 0)) (refused 8 0)) (refused 7 0) ≡ done []
-        → Joinable flows f n largest waiting
-    go true p true q true t e = let fits = within-bounds 1 largest n q in
-        record { counted = ltb-true f flows p; some = fits .0; short = fits .1; room = ltb-true waiting 64 t }
-    go true p true q false t e = refused-done e
-    go true p false q c t e = refused-done e
-    go false p b q c t e = refused-done e
+        → P (cond a (cond b (cond c (done []) (refused 9 0)) (refused 8 0)) (refused 7 0))
+    go true p true q true t = let fits = within-bounds 1 largest n q in
+        takes record { counted = ltb-true f flows p; some = fits .0; short = fits .1; room = ltb-true waiting 64 t }
+    go true p true q false t = refuses 9 (omega arith) (omega arith)
+    go true p false q c t = refuses 8 (omega arith) (omega arith)
+    go false p b q c t = refuses 7 (omega arith) (omega arith)
+
+pub join-done : (flows f n largest waiting : ℕ) → joinReply flows f n largest waiting ≡ done []
+    → Joinable flows f n largest waiting
+join-done flows f n largest waiting =
+    join-cases flows f n largest waiting (λ reply. reply ≡ done [] → Joinable flows f n largest waiting)
+    (λ taken _. taken) (λ number low high e. refused-done e)
 
 -- nothing stands at any place of a list of zeros
 pub zeros-at : (n k : ℕ) → _≡_ {A = ℕ} (getD (replicate n 0) k 0) 0

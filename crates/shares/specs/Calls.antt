@@ -69,15 +69,10 @@ module _ (s : State) (S : Steady s) where
   -- an arrival is refused with 7, 8 or 9, or stored
   join-ways : (P : Outcome → Type 0) (f n handle : ℕ) → ((number : ℕ) → 3 ≤ number → P (kept number s))
       → (Joins s f n → P (storeRule s f n handle)) → P (joinRule s f n handle)
-  unfolding joinRule joinReply
-  join-ways P f n handle stop stores =
-      let w = flowOf s f .queue in
-      let Q : Reply → Type 0 = λ reply. P (unlessRefused reply s (storeRule s f n handle)) in
-      tested Q (counts (s .held .flows) f) _ (refused 7 0) (λ _. stop 7 (omega arith)) λ a.
-      tested Q (within 1 (w .largest) n) _ (refused 8 0) (λ _. stop 8 (omega arith)) λ b.
-      tested Q (ltb (w .waiting) 64) (done []) (refused 9 0) (λ _. stop 9 (omega arith)) λ c.
-      let bounds = within-bounds 1 (w .largest) n b in
-      stores (record { counts = ltb-true f _ a; some = bounds .0; short = bounds .1; room = ltb-true _ 64 c })
+  unfolding joinRule
+  join-ways P f n handle stop stores = let w = flowOf s f .queue in
+      join-cases (s .held .flows) f n (w .largest) (w .waiting)
+      (λ reply. P (unlessRefused reply s (storeRule s f n handle))) stores (λ number low _. stop number (omega arith))
 
   -- a pick is Idle, refused with 10, or serves a flow of smallest tag
   pick-ways : (P : Outcome → Type 0) (o : Outcome) → Taken s o → Ways s pick P → P o

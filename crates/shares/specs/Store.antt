@@ -9,7 +9,7 @@ use lib.Seq.{getD-set-same, getD-set-other}
 use borrow.Author.Tests.{eq-eqb, ne-eqb}
 use Rattle.cost.specs.Charge.{chargeOf}
 use Rattle.queues.specs.Form.{ranged, queueFormed}
-use Rattle.queues.specs.Laws.{ranged-out, ranged-in, queue-at, queue-in, place-apart}
+use Rattle.queues.specs.Laws.{Joinable, ranged-out, ranged-in, queue-at, queue-in, place-apart}
 use Rattle.tags.specs.Ticks.{frontTag}
 use Rattle.uplink.specs.Flow.{Flow, flowCost, joinedFlow}
 use Rattle.uplink.specs.State.{State}
@@ -21,11 +21,8 @@ use Rattle.shares.specs.Put.{Put, putState, lengthIn, put-charge, put-ch
 use Rattle.shares.specs.Start.{StaysAhead, same-start, front-start}
 
 -- an arrival of n bytes at flow f that is taken
-pub record Joins (s : State) (f n : ℕ) : Type 0 where
-  pub counts : f < s .held .flows
-  pub some : 1 ≤ n
-  pub short : n ≤ flowOf s f .queue .largest
-  pub room : flowOf s f .queue .waiting < 64
+abbrev pub Joins : State → ℕ → ℕ → Type 0
+Joins s f n = Joinable (s .held .flows) f n (flowOf s f .queue .largest) (flowOf s f .queue .waiting)
 
 module _ (s : State) (f n handle : ℕ) where
   -- flow f before and after, the clock, and the state after
@@ -56,7 +53,7 @@ module _ (s : State) (f n handle : ℕ) where
   module _ (S : Steady s) (J : Joins s f n) where
     -- flow f is in the table and has its form
     inside : f < s .held .flows
-    inside = J .counts
+    inside = J .counted
 
     form : FlowFormed (s .held) (s .lengths) f
     form = S .form .each f inside

@@ -1,9 +1,7 @@
--- `gateway::gateway_arrival` meets its contract: each way through it is one case of its definition, and an
--- arrival that is done is a step of its flow.
+-- `gateway::gateway_arrival` meets its contract: each way through it is one case of its definition.
 -- Assumes nothing.
-use Rattle.gateway.proofs.Stepping.{arrival-stepped}
-use Rattle.gateway.proofs.Calls.{arrival-unblocked, arrival-refused, arrival-done}
 use borrow.Author.Needs.{needs}
+use Rattle.gateway.proofs.Calls.{arrival-unblocked, arrival-done, arrival-refused}
 use Rattle.gateway.proofs.gateway_arrival.Statement.{statement}
 use Rattle.gateway.proofs.gateway_arrival.Tie as tie
 
@@ -15,6 +13,12 @@ record-of-requires c κs = search needs
 
 arrival-requires : tie.Need-arrival-requires
 arrival-requires c κs = search needs
+
+write-step-requires : tie.Need-write-step-requires
+write-step-requires c κs = search needs
+
+enum-told : tie.Need-enum-told
+enum-told c = search needs
 
 enum-known-answer : tie.Need-enum-known-answer
 enum-known-answer c = search needs
@@ -32,13 +36,7 @@ same-length-3 : tie.Need-same-length-3
 same-length-3 c = search needs
 
 returns-2 : tie.Need-returns-2
-returns-2 c = search (needs, arrival-refused)
-
-enum-told : tie.Need-enum-told
-enum-told c = search needs
-
-write-step-requires : tie.Need-write-step-requires
-write-step-requires c κs = search (needs, arrival-stepped)
+returns-2 c = search (needs, arrival-done)
 
 same-length-4 : tie.Need-same-length-4
 same-length-4 c = search needs
@@ -50,7 +48,7 @@ same-length-6 : tie.Need-same-length-6
 same-length-6 c = search needs
 
 returns-3 : tie.Need-returns-3
-returns-3 c = search (needs, arrival-done)
+returns-3 c = search (needs, arrival-refused)
 
 pub gateway-arrival-spec : {M : Type 1} → statement M
 gateway-arrival-spec =
@@ -59,14 +57,14 @@ gateway-arrival-spec =
     returns
     record-of-requires
     arrival-requires
+    write-step-requires
+    enum-told
     enum-known-answer
     number-requires
     same-length
     same-length-2
     same-length-3
     returns-2
-    enum-told
-    write-step-requires
     same-length-4
     same-length-5
     same-length-6

@@ -1,7 +1,7 @@
 -- `gateway::gateway_opening` meets its contract: each way through it is one case of its definition.
 -- Assumes nothing.
-use Rattle.gateway.proofs.Calls.{opening-unblocked, opening-refused, opening-done}
 use borrow.Author.Needs.{needs}
+use Rattle.gateway.proofs.Calls.{opening-unblocked, opening-refused, opening-done}
 use Rattle.gateway.proofs.gateway_opening.Statement.{statement}
 use Rattle.gateway.proofs.gateway_opening.Tie as tie
 

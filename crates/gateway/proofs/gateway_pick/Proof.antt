@@ -1,9 +1,7 @@
--- `gateway::gateway_pick` meets its contract: each way through it is one case of its definition, and a pick
--- of a packet is a step of its flow.
+-- `gateway::gateway_pick` meets its contract: each way through it is one case of its definition.
 -- Assumes nothing.
-use Rattle.gateway.proofs.Stepping.{pick-stepped}
-use Rattle.gateway.proofs.Calls.{pick-unblocked, pick-unreplied, pick-refused, pick-idle, pick-packet}
 use borrow.Author.Needs.{needs}
+use Rattle.gateway.proofs.Calls.{pick-unblocked, pick-unreplied, pick-refused, pick-idle, pick-packet}
 use Rattle.gateway.proofs.gateway_pick.Statement.{statement}
 use Rattle.gateway.proofs.gateway_pick.Tie as tie
 
@@ -19,6 +17,12 @@ record-of-requires c κs = search needs
 pick-requires : tie.Need-pick-requires
 pick-requires c κs = search needs
 
+flow-of-requires : tie.Need-flow-of-requires
+flow-of-requires c κs = search needs
+
+write-step-requires : tie.Need-write-step-requires
+write-step-requires c κs = search needs
+
 enum-known-answer : tie.Need-enum-known-answer
 enum-known-answer c = search needs
 
@@ -28,14 +32,20 @@ number-requires c κs = search needs
 enum-told : tie.Need-enum-told
 enum-told c = search needs
 
-write-rest-requires : tie.Need-write-rest-requires
-write-rest-requires c κs = search needs
+sub-write-tags : tie.Need-sub-write-tags
+sub-write-tags c = search needs
+
+part-write-tags-start : tie.Need-part-write-tags-start
+part-write-tags-start c = search needs
+
+part-write-tags-end : tie.Need-part-write-tags-end
+part-write-tags-end c = search needs
+
+write-tags-requires : tie.Need-write-tags-requires
+write-tags-requires c κs = search needs
 
 enum-known-answer-2 : tie.Need-enum-known-answer-2
 enum-known-answer-2 c = search needs
-
-write-step-requires : tie.Need-write-step-requires
-write-step-requires c κs = search (needs, pick-stepped)
 
 write-packet-requires : tie.Need-write-packet-requires
 write-packet-requires c κs = search needs
@@ -77,7 +87,19 @@ same-length-10 : tie.Need-same-length-10
 same-length-10 c = search needs
 
 returns-5 : tie.Need-returns-5
-returns-5 c = search (needs, pick-packet)
+returns-5 c =
+    let sent = c .before .before in
+    let known = sent .before .before .before in
+    let stepped = known .before .before .before .before in
+    let chosen = stepped .before .before .before in
+    let picked = chosen .before .before .before .before .before in
+    let read = picked .before .before .before in
+    let passed = read .before .before in
+    let args = passed .before .before .before .before .before .before .args in
+    pick-packet (args .block .now) (args .lengths .now) (args .handles .now) (args .reply .now) _ _ _ _ _ _ _
+    (passed .before .if1 .left) (passed .if2 .left) (read .record-of .ensures) (picked .pick .ensures)
+    (chosen .flow-of .ensures .0) (stepped .write-step .ensures) _ _ _ _ _ _ _ (known .answer2 .given .1)
+    (sent .write-packet .ensures)
 
 pub gateway-pick-spec : {M : Type 1} → statement M
 gateway-pick-spec =
@@ -87,12 +109,16 @@ gateway-pick-spec =
     returns-2
     record-of-requires
     pick-requires
+    flow-of-requires
+    write-step-requires
     enum-known-answer
     number-requires
     enum-told
-    write-rest-requires
+    sub-write-tags
+    part-write-tags-start
+    part-write-tags-end
+    write-tags-requires
     enum-known-answer-2
-    write-step-requires
     write-packet-requires
     same-length
     same-length-2

@@ -1,114 +1,154 @@
--- `gateway::image::record_of` meets its contract. The loop's invariant: the head and the first f flows are those
--- that the block tells. The measure is what is left of 64 flows.
+-- `gateway::image::record_of` meets its contract: each part of the block is read as the definition has it.
 -- Assumes nothing.
-use Prim.Native.Nat.{_-_}
+use mathlib.Core.Path.{_∙_}
 use native.Mathlib.Omega.{arith}
 use borrow.Author.Needs.{needs}
-use Rattle.gateway.proofs.Blocks.{Reading, reading-none, reading-more, reading-all}
+use Rattle.gateway.proofs.Blocks.{record-read}
 use Rattle.gateway.proofs.image.record_of.Statement.{statement}
 use Rattle.gateway.proofs.image.record_of.Tie as tie
 
-abbrev Inv-loop : tie.InvT-loop
-Inv-loop words next₀ f₀ next f = Reading words next f
-
-abbrev μ-loop : tie.MeasureT-loop
-μ-loop words next₀ f₀ next f = 64 - f
-
-blank-requires : tie.Need-blank-requires Inv-loop μ-loop
+blank-requires : tie.Need-blank-requires
 blank-requires c κs = search needs
 
-shared-slice-read-next : tie.Need-shared-slice-read-next Inv-loop μ-loop
-shared-slice-read-next c = search needs
+shared-slice-read-r : tie.Need-shared-slice-read-r
+shared-slice-read-r c = search needs
 
-cast-next : tie.Need-cast-next Inv-loop μ-loop
-cast-next c = search needs
+cast-r : tie.Need-cast-r
+cast-r c = search needs
 
-shared-slice-read-next-2 : tie.Need-shared-slice-read-next-2 Inv-loop μ-loop
-shared-slice-read-next-2 c = search needs
+shared-slice-read-r-2 : tie.Need-shared-slice-read-r-2
+shared-slice-read-r-2 c = search needs
 
-cast-next-2 : tie.Need-cast-next-2 Inv-loop μ-loop
-cast-next-2 c = omega (arith, c .shared-slice-known3 .given 0)
+cast-r-2 : tie.Need-cast-r-2
+cast-r-2 c = omega (arith, c .shared-slice-known3 .given 0 .fits)
 
-shared-slice-read-next-3 : tie.Need-shared-slice-read-next-3 Inv-loop μ-loop
-shared-slice-read-next-3 c = search needs
+shared-slice-read-r-3 : tie.Need-shared-slice-read-r-3
+shared-slice-read-r-3 c = search needs
 
-shared-slice-read-next-4 : tie.Need-shared-slice-read-next-4 Inv-loop μ-loop
-shared-slice-read-next-4 c = search needs
+shared-slice-read-r-4 : tie.Need-shared-slice-read-r-4
+shared-slice-read-r-4 c = search needs
 
-loop-holds : tie.Need-loop-holds Inv-loop μ-loop
-loop-holds c = search (needs, reading-none)
+sub-tags-in : tie.Need-sub-tags-in
+sub-tags-in c = search needs
 
-mul-tag : tie.Need-mul-tag Inv-loop μ-loop
-mul-tag c = search needs
+part-tags-in-start : tie.Need-part-tags-in-start
+part-tags-in-start c = search needs
 
-add-tag : tie.Need-add-tag Inv-loop μ-loop
-add-tag c = search needs
+part-tags-in-end : tie.Need-part-tags-in-end
+part-tags-in-end c = search needs
 
-mul-tag-2 : tie.Need-mul-tag-2 Inv-loop μ-loop
-mul-tag-2 c = search needs
+tags-in-requires : tie.Need-tags-in-requires
+tags-in-requires c κs = search needs
 
-shared-slice-read-tag : tie.Need-shared-slice-read-tag Inv-loop μ-loop
-shared-slice-read-tag c = search needs
+set-tags-requires : tie.Need-set-tags-requires
+set-tags-requires c κs = search needs
 
-mul-queue : tie.Need-mul-queue Inv-loop μ-loop
-mul-queue c = search needs
+sub-field-in : tie.Need-sub-field-in
+sub-field-in c = search needs
 
-add-queue : tie.Need-add-queue Inv-loop μ-loop
-add-queue c = search needs
+part-field-in-start : tie.Need-part-field-in-start
+part-field-in-start c = search needs
 
-mul-queue-2 : tie.Need-mul-queue-2 Inv-loop μ-loop
-mul-queue-2 c = search needs
+part-field-in-end : tie.Need-part-field-in-end
+part-field-in-end c = search needs
 
-shared-slice-read-queue : tie.Need-shared-slice-read-queue Inv-loop μ-loop
-shared-slice-read-queue c = search needs
+field-in-requires : tie.Need-field-in-requires
+field-in-requires c κs = search needs
 
-flow-of-requires : tie.Need-flow-of-requires Inv-loop μ-loop
-flow-of-requires c κs = search needs
+set-field-requires : tie.Need-set-field-requires
+set-field-requires c κs = search needs
 
-mul-w : tie.Need-mul-w Inv-loop μ-loop
-mul-w c = search needs
+sub-field-in-2 : tie.Need-sub-field-in-2
+sub-field-in-2 c = search needs
 
-element-set-from-w : tie.Need-element-set-from-w Inv-loop μ-loop
-element-set-from-w c = search needs
+part-field-in-start-2 : tie.Need-part-field-in-start-2
+part-field-in-start-2 c = search needs
 
-add-f : tie.Need-add-f Inv-loop μ-loop
-add-f c = search needs
+part-field-in-end-2 : tie.Need-part-field-in-end-2
+part-field-in-end-2 c = search needs
 
-loop-less : tie.Need-loop-less Inv-loop μ-loop
-loop-less c = search needs
+field-in-requires-2 : tie.Need-field-in-requires-2
+field-in-requires-2 c κs = search needs
 
-loop-again : tie.Need-loop-again Inv-loop μ-loop
-loop-again c = search (needs, reading-more)
+set-field-requires-2 : tie.Need-set-field-requires-2
+set-field-requires-2 c κs = search needs
 
-returns : tie.Need-returns Inv-loop μ-loop
-returns c = search (needs, reading-all)
+sub-field-in-3 : tie.Need-sub-field-in-3
+sub-field-in-3 c = search needs
+
+part-field-in-start-3 : tie.Need-part-field-in-start-3
+part-field-in-start-3 c = search needs
+
+part-field-in-end-3 : tie.Need-part-field-in-end-3
+part-field-in-end-3 c = search needs
+
+field-in-requires-3 : tie.Need-field-in-requires-3
+field-in-requires-3 c κs = search needs
+
+set-field-requires-3 : tie.Need-set-field-requires-3
+set-field-requires-3 c κs = search needs
+
+sub-field-in-4 : tie.Need-sub-field-in-4
+sub-field-in-4 c = search needs
+
+part-field-in-start-4 : tie.Need-part-field-in-start-4
+part-field-in-start-4 c = search needs
+
+part-field-in-end-4 : tie.Need-part-field-in-end-4
+part-field-in-end-4 c = search needs
+
+field-in-requires-4 : tie.Need-field-in-requires-4
+field-in-requires-4 c κs = search needs
+
+set-field-requires-4 : tie.Need-set-field-requires-4
+set-field-requires-4 c κs = search needs
+
+returns : tie.Need-returns
+returns c =
+    let third = c .before .before .before .before in
+    let second = third .before .before .before .before in
+    let first = second .before .before .before .before in
+    let tagged = first .before .before .before .before in
+    record-read (tagged .before .before .before .before .before .before .before .before .before .before .before .before .args .words .now) _ _ _ _ _ (tagged .set-tags .ensures ∙ tagged .before .tags-in .ensures)
+    (first .set-field .ensures ∙ first .before .field-in .ensures)
+    (second .set-field2 .ensures ∙ second .before .field-in2 .ensures)
+    (third .set-field3 .ensures ∙ third .before .field-in3 .ensures)
+    (c .set-field4 .ensures ∙ c .before .field-in4 .ensures)
 
 pub record-of-spec : {M : Type 1} → statement M
 record-of-spec =
     tie.close
     (tie.spec
-    Inv-loop
-    μ-loop
     blank-requires
-    shared-slice-read-next
-    cast-next
-    shared-slice-read-next-2
-    cast-next-2
-    shared-slice-read-next-3
-    shared-slice-read-next-4
-    loop-holds
-    mul-tag
-    add-tag
-    mul-tag-2
-    shared-slice-read-tag
-    mul-queue
-    add-queue
-    mul-queue-2
-    shared-slice-read-queue
-    flow-of-requires
-    mul-w
-    element-set-from-w
-    add-f
-    loop-less
-    loop-again
+    shared-slice-read-r
+    cast-r
+    shared-slice-read-r-2
+    cast-r-2
+    shared-slice-read-r-3
+    shared-slice-read-r-4
+    sub-tags-in
+    part-tags-in-start
+    part-tags-in-end
+    tags-in-requires
+    set-tags-requires
+    sub-field-in
+    part-field-in-start
+    part-field-in-end
+    field-in-requires
+    set-field-requires
+    sub-field-in-2
+    part-field-in-start-2
+    part-field-in-end-2
+    field-in-requires-2
+    set-field-requires-2
+    sub-field-in-3
+    part-field-in-start-3
+    part-field-in-end-3
+    field-in-requires-3
+    set-field-requires-3
+    sub-field-in-4
+    part-field-in-start-4
+    part-field-in-end-4
+    field-in-requires-4
+    set-field-requires-4
     returns)

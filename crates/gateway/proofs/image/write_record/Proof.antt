@@ -1,98 +1,155 @@
--- `gateway::image::write_record` meets its contract. The loop's invariant: the words of the head and of the first
--- f flows are the record's. The measure is what is left of 64 flows.
+-- `gateway::image::write_record` meets its contract: each part of the block is written as the definition has it.
 -- Assumes nothing.
-use Prim.Native.Nat.{_-_}
 use native.Mathlib.Omega.{arith}
 use lib.ListN.{length-set}
 use borrow.Author.Needs.{needs}
-use Rattle.gateway.proofs.Blocks.{Written, written-none, written-more, written-all}
+use Rattle.gateway.proofs.Blocks.{filled-length, filled-head, filled-tags, filled-share, filled-largest, filled-first, filled-all, record-written}
 use Rattle.gateway.proofs.image.write_record.Statement.{statement}
 use Rattle.gateway.proofs.image.write_record.Tie as tie
 
-abbrev Inv-loop : tie.InvT-loop
-Inv-loop words₀ r f₀ words f = Written r words f
-
-abbrev μ-loop : tie.MeasureT-loop
-μ-loop words₀ r f₀ words f = 64 - f
-
-cast-words : tie.Need-cast-words Inv-loop μ-loop
+cast-words : tie.Need-cast-words
 cast-words c = search needs
 
-cast-words-2 : tie.Need-cast-words-2 Inv-loop μ-loop
+cast-words-2 : tie.Need-cast-words-2
 cast-words-2 c = search needs
 
-mul-words : tie.Need-mul-words Inv-loop μ-loop
+mul-words : tie.Need-mul-words
 mul-words c = search needs
 
-add-words : tie.Need-add-words Inv-loop μ-loop
+add-words : tie.Need-add-words
 add-words c = search needs
 
-slice-write-words : tie.Need-slice-write-words Inv-loop μ-loop
+slice-write-words : tie.Need-slice-write-words
 slice-write-words c = search needs
 
-slice-write-words-2 : tie.Need-slice-write-words-2 Inv-loop μ-loop
+slice-write-words-2 : tie.Need-slice-write-words-2
 slice-write-words-2 c = search needs
 
-slice-write-words-3 : tie.Need-slice-write-words-3 Inv-loop μ-loop
+slice-write-words-3 : tie.Need-slice-write-words-3
 slice-write-words-3 c = search needs
 
-loop-holds : tie.Need-loop-holds Inv-loop μ-loop
-loop-holds c = search (needs, written-none)
+sub-write-tags : tie.Need-sub-write-tags
+sub-write-tags c = search needs
 
-mul-w : tie.Need-mul-w Inv-loop μ-loop
-mul-w c = search needs
+part-write-tags-start : tie.Need-part-write-tags-start
+part-write-tags-start c = search needs
 
-element-copy-out-w : tie.Need-element-copy-out-w Inv-loop μ-loop
-element-copy-out-w c = search needs
+part-write-tags-end : tie.Need-part-write-tags-end
+part-write-tags-end c = let start = c .before .before .before in simp length-set (omega (arith, start .pre))
 
-mul-words-2 : tie.Need-mul-words-2 Inv-loop μ-loop
-mul-words-2 c = search needs
+write-tags-requires : tie.Need-write-tags-requires
+write-tags-requires c κs = search needs
 
-add-words-2 : tie.Need-add-words-2 Inv-loop μ-loop
-add-words-2 c = search needs
+sub-write-field : tie.Need-sub-write-field
+sub-write-field c = search needs
 
-mul-words-3 : tie.Need-mul-words-3 Inv-loop μ-loop
-mul-words-3 c = search needs
+part-write-field-start : tie.Need-part-write-field-start
+part-write-field-start c = search needs
 
-slice-write-words-4 : tie.Need-slice-write-words-4 Inv-loop μ-loop
-slice-write-words-4 c = search needs
+part-write-field-end : tie.Need-part-write-field-end
+part-write-field-end c =
+    let tagged = c .before .before .before .before in
+    let start = tagged .before .before .before .before .before in
+    omega (arith, start .pre, filled-length _ _ _ _ (filled-tags (start .args .words .now) (start .pre) (start .args .t1) _ (tagged .write-tags .ensures)))
 
-queue-word-requires : tie.Need-queue-word-requires Inv-loop μ-loop
-queue-word-requires c κs = search needs
+write-field-requires : tie.Need-write-field-requires
+write-field-requires c κs = search needs
 
-mul-words-4 : tie.Need-mul-words-4 Inv-loop μ-loop
-mul-words-4 c = search needs
+sub-write-field-2 : tie.Need-sub-write-field-2
+sub-write-field-2 c = search needs
 
-add-words-3 : tie.Need-add-words-3 Inv-loop μ-loop
-add-words-3 c = search needs
+part-write-field-start-2 : tie.Need-part-write-field-start-2
+part-write-field-start-2 c = search needs
 
-mul-words-5 : tie.Need-mul-words-5 Inv-loop μ-loop
-mul-words-5 c = search needs
+part-write-field-end-2 : tie.Need-part-write-field-end-2
+part-write-field-end-2 c =
+    let shared = c .before .before .before .before in
+    let tagged = shared .before .before .before .before .before .before in
+    let start = tagged .before .before .before .before .before in
+    omega (
+      arith,
+      start .pre,
+      filled-length _ _ _ _ (filled-share (start .args .words .now) (start .pre) (start .args .t1) _
+          (tagged .write-tags .ensures) _ (shared .write-field .ensures)),
+    )
 
-slice-write-words-5 : tie.Need-slice-write-words-5 Inv-loop μ-loop
-slice-write-words-5 c = simp length-set (omega arith)
+write-field-requires-2 : tie.Need-write-field-requires-2
+write-field-requires-2 c κs = search needs
 
-add-f : tie.Need-add-f Inv-loop μ-loop
-add-f c = search needs
+sub-write-field-3 : tie.Need-sub-write-field-3
+sub-write-field-3 c = search needs
 
-loop-less : tie.Need-loop-less Inv-loop μ-loop
-loop-less c = search needs
+part-write-field-start-3 : tie.Need-part-write-field-start-3
+part-write-field-start-3 c = search needs
 
-loop-again : tie.Need-loop-again Inv-loop μ-loop
-loop-again c = search (needs, written-more)
+part-write-field-end-3 : tie.Need-part-write-field-end-3
+part-write-field-end-3 c =
+    let second = c .before .before .before .before in
+    let shared = second .before .before .before .before .before .before in
+    let tagged = shared .before .before .before .before .before .before in
+    let start = tagged .before .before .before .before .before in
+    omega (
+      arith,
+      start .pre,
+      filled-length _ _ _ _ (filled-largest (start .args .words .now) (start .pre) (start .args .t1) _
+          (tagged .write-tags .ensures) _ (shared .write-field .ensures) _ (second .write-field2 .ensures)),
+    )
 
-same-length : tie.Need-same-length Inv-loop μ-loop
-same-length c = search needs
+write-field-requires-3 : tie.Need-write-field-requires-3
+write-field-requires-3 c κs = search needs
 
-returns : tie.Need-returns Inv-loop μ-loop
-returns c = search (needs, written-all)
+sub-write-field-4 : tie.Need-sub-write-field-4
+sub-write-field-4 c = search needs
+
+part-write-field-start-4 : tie.Need-part-write-field-start-4
+part-write-field-start-4 c = search needs
+
+part-write-field-end-4 : tie.Need-part-write-field-end-4
+part-write-field-end-4 c =
+    let third = c .before .before .before .before in
+    let second = third .before .before .before .before .before .before in
+    let shared = second .before .before .before .before .before .before in
+    let tagged = shared .before .before .before .before .before .before in
+    let start = tagged .before .before .before .before .before in
+    omega (
+      arith,
+      start .pre,
+      filled-length _ _ _ _ (filled-first (start .args .words .now) (start .pre) (start .args .t1) _
+          (tagged .write-tags .ensures) _ (shared .write-field .ensures) _ (second .write-field2 .ensures) _
+          (third .write-field3 .ensures)),
+    )
+
+write-field-requires-4 : tie.Need-write-field-requires-4
+write-field-requires-4 c κs = search needs
+
+same-length : tie.Need-same-length
+same-length c =
+    let fourth = c .before .before in
+    let third = fourth .before .before .before .before .before .before in
+    let second = third .before .before .before .before .before .before in
+    let shared = second .before .before .before .before .before .before in
+    let tagged = shared .before .before .before .before .before .before in
+    let start = tagged .before .before .before .before .before in
+    filled-length _ _ _ _ (filled-all (start .args .words .now) (start .pre) (start .args .t1) _
+    (tagged .write-tags .ensures) _ (shared .write-field .ensures) _ (second .write-field2 .ensures) _
+    (third .write-field3 .ensures) _ (fourth .write-field4 .ensures))
+
+returns : tie.Need-returns
+returns c =
+    let fourth = c .before .before in
+    let third = fourth .before .before .before .before .before .before in
+    let second = third .before .before .before .before .before .before in
+    let shared = second .before .before .before .before .before .before in
+    let tagged = shared .before .before .before .before .before .before in
+    let start = tagged .before .before .before .before .before in
+    record-written (start .args .words .now) (start .pre) (start .args .t1) _ (tagged .write-tags .ensures) _
+    (shared .write-field .ensures) _ (second .write-field2 .ensures) _ (third .write-field3 .ensures) _
+    (fourth .write-field4 .ensures)
 
 pub write-record-spec : {M : Type 1} → statement M
 write-record-spec =
     tie.close
     (tie.spec
-    Inv-loop
-    μ-loop
     cast-words
     cast-words-2
     mul-words
@@ -100,20 +157,25 @@ write-record-spec =
     slice-write-words
     slice-write-words-2
     slice-write-words-3
-    loop-holds
-    mul-w
-    element-copy-out-w
-    mul-words-2
-    add-words-2
-    mul-words-3
-    slice-write-words-4
-    queue-word-requires
-    mul-words-4
-    add-words-3
-    mul-words-5
-    slice-write-words-5
-    add-f
-    loop-less
-    loop-again
+    sub-write-tags
+    part-write-tags-start
+    part-write-tags-end
+    write-tags-requires
+    sub-write-field
+    part-write-field-start
+    part-write-field-end
+    write-field-requires
+    sub-write-field-2
+    part-write-field-start-2
+    part-write-field-end-2
+    write-field-requires-2
+    sub-write-field-3
+    part-write-field-start-3
+    part-write-field-end-3
+    write-field-requires-3
+    sub-write-field-4
+    part-write-field-start-4
+    part-write-field-end-4
+    write-field-requires-4
     same-length
     returns)
