@@ -1,15 +1,15 @@
 /* The uplink scheduler: which waiting packet a radio link sends next, with shares that can be shown.
  *
  * The caller lends three things to each call, for the length of that call alone, and keeps them between calls:
- *   record   UPLINK_RECORD_WORDS words that only the scheduler looks into;
+ *   record   UPLINK_RECORD_WORDS words that only the scheduler looks into, in the order of UPLINK_RECORD_ORDER;
  *   lengths  UPLINK_PLACES 16-bit places, the lengths of the waiting packets;
  *   handles  UPLINK_PLACES 32-bit places, the caller's own names for them.
  * No two of them may overlap, nor may an opening's lists or a pick's reply overlap one of them. The promise on shares
  * holds from an accepted opening on, for as long as all three are carried unaltered from call to call.
  *
  * Any values may be handed in: a call never crashes, never reads or writes outside what is lent, and always returns.
- * A refused call changes no word of anything that is lent. No call keeps a pointer, allocates or blocks, and calls on
- * different records may run at the same time.
+ * A refused call changes no word of anything that is lent: where it writes one, it is with the value that stood there.
+ * No call keeps a pointer, allocates or blocks, and calls on different records may run at the same time.
  *
  * Lengths are in bytes. Tags and clocks are in ticks: a byte takes the link 720 of them. */
 #ifndef UPLINK_H
@@ -23,6 +23,7 @@ extern "C" {
 #endif
 
 #define UPLINK_RECORD_WORDS 131
+#define UPLINK_RECORD_ORDER 2 /* a record kept by a library of another order has to be opened anew */
 #define UPLINK_PLACES 4096
 #define UPLINK_REPLY_WORDS 6
 

@@ -5,6 +5,8 @@
 //! Lengths are in bytes. Tags and clocks are in ticks: a byte takes the link 720 of them.
 
 pub const RECORD_WORDS: usize = 131;
+/// The order of a record's words: one kept by a library of another order has to be opened anew.
+pub const RECORD_ORDER: u32 = 2;
 pub const PLACES: usize = 4096;
 const REPLY_WORDS: usize = 6;
 

@@ -7,17 +7,33 @@
 #define TWO62 (UINT64_C(1) << 62)
 #define CLOCK_END (TWO62 + 1081080000)
 
+/* Where the words of the tags and of the four fields begin. */
+enum { TAGS = 3, SHARES = 67, LARGEST = 83, FIRSTS = 99, WAITING = 115 };
+
+static void put_entry(uint64_t *field, size_t f, uint16_t entry)
+{
+    field[f / 4] |= (uint64_t)entry << 16 * (f % 4);
+}
+
+static uint16_t entry_at(const uint64_t *field, size_t f)
+{
+    return (uint16_t)(field[f / 4] >> 16 * (f % 4));
+}
+
 void to_words(const struct plain_record *record, uint64_t words[UPLINK_RECORD_WORDS])
 {
+    memset(words, 0, UPLINK_RECORD_WORDS * sizeof *words);
     words[0] = record->flows | (uint64_t)record->leap << 32;
     words[1] = record->clock;
     words[2] = record->link;
     for (size_t f = 0; f < PLAIN_FLOWS; f++) {
         const struct plain_flow *flow = &record->flow[f];
 
-        words[3 + 2 * f] = flow->tag;
-        words[4 + 2 * f] = flow->share | (uint64_t)flow->largest << 16 | (uint64_t)flow->first << 32
-                         | (uint64_t)flow->waiting << 48;
+        words[TAGS + f] = flow->tag;
+        put_entry(words + SHARES, f, flow->share);
+        put_entry(words + LARGEST, f, flow->largest);
+        put_entry(words + FIRSTS, f, flow->first);
+        put_entry(words + WAITING, f, flow->waiting);
     }
 }
 
@@ -30,11 +46,11 @@ void from_words(struct plain_record *record, const uint64_t words[UPLINK_RECORD_
     for (size_t f = 0; f < PLAIN_FLOWS; f++) {
         struct plain_flow *flow = &record->flow[f];
 
-        flow->tag = words[3 + 2 * f];
-        flow->share = (uint16_t)words[4 + 2 * f];
-        flow->largest = (uint16_t)(words[4 + 2 * f] >> 16);
-        flow->first = (uint16_t)(words[4 + 2 * f] >> 32);
-        flow->waiting = (uint16_t)(words[4 + 2 * f] >> 48);
+        flow->tag = words[TAGS + f];
+        flow->share = entry_at(words + SHARES, f);
+        flow->largest = entry_at(words + LARGEST, f);
+        flow->first = entry_at(words + FIRSTS, f);
+        flow->waiting = entry_at(words + WAITING, f);
     }
 }
 

@@ -13,8 +13,8 @@ struct state {
     uint32_t handles[UPLINK_PLACES];
 };
 
-/* The block's layout: word 0 is flows + 2^32 leap width, word 1 the clock, word 2 the link time; for flow f, word
- * 3 + 2 f is the tag and word 4 + 2 f is share + 2^16 largest + 2^32 first + 2^48 waiting. */
+/* The block's layout: word 0 is flows + 2^32 leap width, word 1 the clock, word 2 the link time; words 3 to 66 are the
+ * tags; then 16 words each for shares, largest packets, firsts and numbers waiting, four flows to a word. */
 void to_words(const struct plain_record *record, uint64_t words[UPLINK_RECORD_WORDS]);
 void from_words(struct plain_record *record, const uint64_t words[UPLINK_RECORD_WORDS]);
 

@@ -10,8 +10,8 @@ use borrow.Author.Tests.{ltb-true, ltb-false, eq-eqb}
 use Rattle.below.specs.Truth.{both-of}
 use Rattle.cost.specs.Cost.{within, within-bounds}
 use Rattle.reply.specs.Reply.{Reply, idle, done, refused}
-use Rattle.queues.specs.Form.{counts}
-use Rattle.queues.specs.Places.{lent, joinReply}
+use Rattle.queues.specs.Places.{lent}
+use Rattle.queues.specs.Laws.{join-cases}
 use Rattle.tags.specs.Ticks.{leaps, leapClock}
 use Rattle.tags.specs.Choice.{Smallest}
 use Rattle.tags.specs.Chosen.{leads}
