@@ -22,7 +22,9 @@ pub use places::are_lent;
 pub use places::arrival_reply;
 pub use places::field;
 pub use places::free;
-pub use places::put_field;
+pub use places::go_on;
+pub use places::join;
+pub use places::leave;
 pub use places::store;
 
 // One array for each field. A flow's packets wait in a ring of its 64 places, from `first` on. All fields are 0 where

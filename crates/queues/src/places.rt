@@ -1,6 +1,6 @@
 // Where packets wait, how one joins behind and how one leaves in front; refusals 1, 7, 8 and 9.
 ghost use mathlib.Core.Path.{_≡_};
-ghost use Prim.Native.Nat.{_≤_, _<_};
+ghost use Prim.Native.Nat.{_+_, _-_, _%_, _≤_, _<_};
 ghost use lib.ListN.{length, getD, set};
 ghost use Rattle.reply.specs.Reply.{arrivalReply};
 ghost use Rattle.queues.specs.Queue.{placeOf};
@@ -31,13 +31,37 @@ pub fn field(fields: &[u16; 64], flow: u32) -> u16
     fields[f]
 }
 
-// Another entry for one flow.
-pub fn put_field(fields: &mut [u16; 64], flow: u32, value: u16)
-    requires { ⌜ flow < 64 ⌝ }
-    ensures { λ _. ⌜ now (fields .exit) ≡ set (now (fields .entry)) flow value ⌝ }
+// One packet more waits in the flow. Gives the number that waited before.
+pub fn join(waiting: &mut [u16; 64], flow: u32) -> u16
+    requires { ⌜ (flow < 64) × (getD (now waiting) flow 0 < 64) ⌝ }
+    ensures { λ r. ⌜ (r ≡ getD (now (waiting .entry)) flow 0) × (now (waiting .exit) ≡ set (now (waiting .entry)) flow (r + 1)) ⌝ }
 {
     let f = flow as usize;
-    fields[f] = value;
+    let before = waiting[f];
+    waiting[f] = before + 1;
+    before
+}
+
+// One packet fewer waits in the flow. Gives the number that waited before.
+pub fn leave(waiting: &mut [u16; 64], flow: u32) -> u16
+    requires { ⌜ (flow < 64) × (0 < getD (now waiting) flow 0) ⌝ }
+    ensures { λ r. ⌜ (r ≡ getD (now (waiting .entry)) flow 0) × (now (waiting .exit) ≡ set (now (waiting .entry)) flow (r - 1)) ⌝ }
+{
+    let f = flow as usize;
+    let before = waiting[f];
+    waiting[f] = before - 1;
+    before
+}
+
+// The flow's first place goes on by one, 63 to 0. Gives the place that was first.
+pub fn go_on(first: &mut [u16; 64], flow: u32) -> u16
+    requires { ⌜ (flow < 64) × (getD (now first) flow 0 < 64) ⌝ }
+    ensures { λ r. ⌜ (r ≡ getD (now (first .entry)) flow 0) × (now (first .exit) ≡ set (now (first .entry)) flow ((r + 1) % 64)) ⌝ }
+{
+    let f = flow as usize;
+    let before = first[f];
+    first[f] = (before + 1) % 64;
+    before
 }
 
 // Refusals 7, 8 and 9.

@@ -50,10 +50,9 @@ impl Record {
             );
             if let ArrivalReply::Done = reply {
                 let first = queues::field(&self.queues.first, flow);
-                let waiting = queues::field(&self.queues.waiting, flow);
+                let waiting = queues::join(&mut self.queues.waiting, flow);
                 let bytes = length as u16;
                 queues::store(flow, first, waiting, bytes, handle, lengths, handles);
-                queues::put_field(&mut self.queues.waiting, flow, waiting + 1);
                 if waiting == 0 {
                     let cost = cost::cost_at(&table, queues::field(&self.queues.share, flow));
                     let tag = tags::tag_at(&self.tags.0, flow);

@@ -94,15 +94,13 @@ impl Record {
                 let flow = lead.flow;
                 let tag = lead.tag;
                 let leap = tags::leap(self.clock, self.width, tag);
-                let first = queues::field(&self.queues.first, flow);
-                let waiting = queues::field(&self.queues.waiting, flow);
+                let first = queues::go_on(&mut self.queues.first, flow);
+                let waiting = queues::leave(&mut self.queues.waiting, flow);
                 let gone = advance(flow, first, leap.clock, self.link, lengths, handles);
                 let clock = gone.clock;
                 let link = gone.link;
                 self.clock = clock;
                 self.link = link;
-                queues::put_field(&mut self.queues.first, flow, (first + 1) % 64);
-                queues::put_field(&mut self.queues.waiting, flow, waiting - 1);
                 if 1 < waiting {
                     let cost = cost::cost_at(&table, queues::field(&self.queues.share, flow));
                     let next = tags::front_tag(tag, clock, gone.behind, cost);

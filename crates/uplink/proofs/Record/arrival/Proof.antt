@@ -18,22 +18,23 @@ lent-at c = c .before .before .before .before .before .before .before .before .b
 abbrev begun : tie.Else1 → tie.Start
 begun c = c .before .before .before .before .before .before .before
 
--- from where the number waiting is looked at to where the packet is taken
-abbrev stored-at : tie.After-put-field → tie.After-enum-told
-stored-at c = c .before .before .before .before .before .before .before .before .before .before .before .before .before .before .before
+-- from where the packet is stored to where it is taken
+abbrev taken-at : tie.After-store → tie.After-enum-told
+taken-at c = c .before .before .before .before .before .before .before .before
 
 -- what the checks leave
-ready : (c : tie.After-enum-told)
-    → let passed = lent-at (replied c) in
+ready : (told : tie.After-enum-told)
+    → let passed = lent-at (replied told) in
     let args = begun passed .args in
     Storable (args .t1) (args .flow) (args .length) (passed .before .before .before .before .table .result) (args .lengths .now) (args .handles .now)
-ready c =
-    let formed = replied c in
+ready told =
+    let formed = replied told in
     let passed = lent-at formed in
     let args = begun passed .args in
-    storable (args .t1) (args .lengths .now) (args .handles .now) _ _ (args .handle) _ (passed .before .are-lent .ensures)
-    (passed .if1 .left) _ (formed .before .is-formed .ensures) (formed .if2 .left) _
-    (c .before .before .arrival-reply .ensures) (c .enum-told .given .1) _ (passed .before .before .before .before .table .ensures)
+    storable (args .t1) (args .lengths .now) (args .handles .now) (args .flow) (args .length) (args .handle) _
+    (passed .before .are-lent .ensures) (passed .if1 .left) _ (formed .before .is-formed .ensures) (formed .if2 .left) _ (told .before .before .arrival-reply .ensures)
+    (told .enum-told .given .1)
+    _ (passed .before .before .before .before .table .ensures)
 
 table-requires : tie.Need-table-requires
 table-requires c κs = search needs
@@ -60,39 +61,33 @@ enum-told c = search needs
 field-requires : tie.Need-field-requires
 field-requires c κs = ready (c .before .before) .flow
 
-field-requires-2 : tie.Need-field-requires-2
-field-requires-2 c κs = ready (c .before .before .before .before .before) .flow
+join-requires : tie.Need-join-requires
+join-requires c κs = let known = ready (c .before .before .before .before) in (known .flow, known .room)
 
 cast-bytes : tie.Need-cast-bytes
-cast-bytes c = let known = ready (c .before .before .before .before .before .before) in search needs
+cast-bytes c = let known = ready (c .before .before .before .before .before) in search needs
 
 store-requires : tie.Need-store-requires
-store-requires c κs = let known = ready (c .before .before .before .before .before .before .before .before) in (known .flow, known .lengths-lent, known .handles-lent)
+store-requires c κs = let known = ready (c .before .before .before .before .before .before .before) in (known .flow, known .lengths-lent, known .handles-lent)
 
-add-put-field : tie.Need-add-put-field
-add-put-field c = let known = ready (c .before .before .before .before .before .before .before .before .before .before .before .before .before .before) in omega (arith, known .room, c .before .before .before .before .before .before .before .before .field2 .ensures)
-
-put-field-requires : tie.Need-put-field-requires
-put-field-requires c κs = ready (c .before .before .before .before .before .before .before .before .before .before .before .before .before .before) .flow
-
-field-requires-3 : tie.Need-field-requires-3
-field-requires-3 c κs = ready (stored-at (c .before .before .before .before)) .flow
+field-requires-2 : tie.Need-field-requires-2
+field-requires-2 c κs = ready (taken-at (c .before .before .before .before .before .before .before .before)) .flow
 
 cost-at-requires : tie.Need-cost-at-requires
 cost-at-requires c κs =
-    let known = ready (stored-at (c .before .before .before .before .before)) in
-    (omega (arith, known .share-low, c .field3 .ensures), omega (arith, known .share-high, c .field3 .ensures), known .table-right)
+    let known = ready (taken-at (c .before .before .before .before .before .before .before .before .before)) in
+    (omega (arith, known .share-low, c .field2 .ensures), omega (arith, known .share-high, c .field2 .ensures), known .table-right)
 
 tag-at-requires : tie.Need-tag-at-requires
-tag-at-requires c κs = ready (stored-at (c .before .before .before .before .before .before .before .before)) .flow
+tag-at-requires c κs = ready (taken-at (c .before .before .before .before .before .before .before .before .before .before .before .before)) .flow
 
 front-tag-requires : tie.Need-front-tag-requires
 front-tag-requires c κs =
-    let known = ready (stored-at (c .before .before .before .before .before .before .before .before .before .before)) in
+    let known = ready (taken-at (c .before .before .before .before .before .before .before .before .before .before .before .before .before .before)) in
     (omega (arith, known .tag, c .before .tag-at .ensures), known .clock)
 
 put-tag-requires : tie.Need-put-tag-requires
-put-tag-requires c κs = ready (stored-at (c .before .before .before .before .before .before .before .before .before .before .before .before)) .flow
+put-tag-requires c κs = ready (taken-at (c .before .before .before .before .before .before .before .before .before .before .before .before .before .before .before .before)) .flow
 
 enum-told-2 : tie.Need-enum-told-2
 enum-told-2 c = search needs
@@ -131,19 +126,18 @@ returns-3 c =
     let tagged = fronted .before .before in
     let costed = tagged .before .before .before in
     let empty = costed .before .before .before .before .before in
-    let placed = empty .before in
-    let stored = placed .before .before .before .before .before .before in
-    let counted = stored .before .before .before in
-    let told = counted .before .before .before .before .before .before in
+    let stored = empty .before .before .before .before .before in
+    let joined = stored .before .before .before in
+    let told = joined .before .before .before .before .before in
     let formed = replied told in
     let passed = lent-at formed in
-    let start = begun passed in
-    arrived-first (start .args .t1) (start .args .lengths .now) (start .args .handles .now) (start .args .flow)
-    (start .args .length) (start .args .handle) _ (passed .before .are-lent .ensures) (passed .if1 .left) _
-    (formed .before .is-formed .ensures) (formed .if2 .left) _ (told .before .before .arrival-reply .ensures)
-    (told .enum-told .given .1) _ _ _ _ _ (counted .before .before .before .field .ensures) (counted .field2 .ensures) (stored .store .ensures)
-    (placed .put-field .ensures) _ _ _ _ _ (empty .if3 .taken) (costed .before .field3 .ensures) (costed .cost-at .ensures)
-    (tagged .tag-at .ensures) (fronted .front-tag .ensures) (c .put-tag .ensures)
+    let args = begun passed .args in
+    arrived-first (args .t1) (args .lengths .now) (args .handles .now) (args .flow) (args .length) (args .handle) _
+    (passed .before .are-lent .ensures) (passed .if1 .left) _ (formed .before .is-formed .ensures) (formed .if2 .left) _ (told .before .before .arrival-reply .ensures)
+    (told .enum-told .given .1) _ _ _ _ _ (joined .before .before .field .ensures)
+    (joined .join .ensures .0) (stored .store .ensures) (joined .join .ensures .1) _ _ _ _ _ (empty .if3 .taken)
+    (costed .before .field2 .ensures) (costed .cost-at .ensures) (tagged .tag-at .ensures) (fronted .front-tag .ensures)
+    (c .put-tag .ensures)
 
 same-length-7 : tie.Need-same-length-7
 same-length-7 c = search needs
@@ -153,18 +147,16 @@ same-length-8 c = search needs
 
 returns-4 : tie.Need-returns-4
 returns-4 c =
-    let placed = c .before in
-    let stored = placed .before .before .before .before .before .before in
-    let counted = stored .before .before .before in
-    let told = counted .before .before .before .before .before .before in
+    let stored = c .before .before .before .before .before in
+    let joined = stored .before .before .before in
+    let told = joined .before .before .before .before .before in
     let formed = replied told in
     let passed = lent-at formed in
-    let start = begun passed in
-    arrived-behind (start .args .t1) (start .args .lengths .now) (start .args .handles .now) (start .args .flow)
-    (start .args .length) (start .args .handle) _ (passed .before .are-lent .ensures) (passed .if1 .left) _
-    (formed .before .is-formed .ensures) (formed .if2 .left) _ (told .before .before .arrival-reply .ensures)
-    (told .enum-told .given .1) _ _ _ _ _ (counted .before .before .before .field .ensures) (counted .field2 .ensures) (stored .store .ensures)
-    (placed .put-field .ensures) (c .if3 .left)
+    let args = begun passed .args in
+    arrived-behind (args .t1) (args .lengths .now) (args .handles .now) (args .flow) (args .length) (args .handle) _
+    (passed .before .are-lent .ensures) (passed .if1 .left) _ (formed .before .is-formed .ensures) (formed .if2 .left) _ (told .before .before .arrival-reply .ensures)
+    (told .enum-told .given .1) _ _ _ _ _ (joined .before .before .field .ensures)
+    (joined .join .ensures .0) (stored .store .ensures) (joined .join .ensures .1) (c .if3 .left)
 
 same-length-9 : tie.Need-same-length-9
 same-length-9 c = search needs
@@ -176,11 +168,9 @@ returns-5 : tie.Need-returns-5
 returns-5 c =
     let formed = c .before .before .before .before .before .before in
     let passed = lent-at formed in
-    let start = begun passed in
-    arrived-refused (start .args .t1) (start .args .lengths .now) (start .args .handles .now) (start .args .flow)
-    (start .args .length) (start .args .handle) _ (passed .before .are-lent .ensures) (passed .if1 .left) _
-    (formed .before .is-formed .ensures) (formed .if2 .left) _ (c .before .before .arrival-reply .ensures) _
-    (c .enum-told2 .given .1)
+    let args = begun passed .args in
+    arrived-refused (args .t1) (args .lengths .now) (args .handles .now) (args .flow) (args .length) (args .handle) _
+    (passed .before .are-lent .ensures) (passed .if1 .left) _ (formed .before .is-formed .ensures) (formed .if2 .left) _ (c .before .before .arrival-reply .ensures) _ (c .enum-told2 .given .1)
 
 pub arrival-spec : {M : Type 1} → statement M
 arrival-spec =
@@ -192,12 +182,10 @@ arrival-spec =
     arrival-reply-requires
     enum-told
     field-requires
-    field-requires-2
+    join-requires
     cast-bytes
     store-requires
-    add-put-field
-    put-field-requires
-    field-requires-3
+    field-requires-2
     cost-at-requires
     tag-at-requires
     front-tag-requires

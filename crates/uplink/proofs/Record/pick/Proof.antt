@@ -17,22 +17,22 @@ begun c = c .before .before .before .before .before .before .before
 
 -- from where the front packet has gone to where it was known that one goes
 abbrev gone-at : tie.After-advance → tie.Else4
-gone-at c = c .before .before .before .before .before .before .before .before .before .before .before .before .before
+gone-at c = c .before .before .before .before .before .before .before .before .before .before .before
 
 -- what the checks leave
-ready : (c : tie.Else4)
-    → let chosen = c .before .before .before in
+ready : (soon : tie.Else4)
+    → let chosen = soon .before .before .before in
     let passed = lent-at (chosen .before .before .before .before) in
     let args = begun passed .args in
     Servable (args .t1) (chosen .choose .result) (passed .before .before .before .before .table .result) (args .lengths .now) (args .handles .now)
-ready c =
-    let chosen = c .before .before .before in
+ready soon =
+    let chosen = soon .before .before .before in
     let formed = chosen .before .before .before .before in
     let passed = lent-at formed in
     let args = begun passed .args in
     servable (args .t1) (args .lengths .now) (args .handles .now) _ (passed .before .are-lent .ensures) (passed .if1 .left) _
     (formed .before .is-formed .ensures) (formed .if2 .left) _ (chosen .choose .ensures)
-    (c .before .if3 .left) (c .if4 .left) _ (passed .before .before .before .before .table .ensures)
+    (soon .before .if3 .left) (soon .if4 .left) _ (passed .before .before .before .before .table .ensures)
 
 table-requires : tie.Need-table-requires
 table-requires c κs = search needs
@@ -59,55 +59,48 @@ choose-requires c κs =
 leap-requires : tie.Need-leap-requires
 leap-requires c κs = search needs
 
-field-requires : tie.Need-field-requires
-field-requires c κs = ready (c .before .before .before .before .before) .flow
+go-on-requires : tie.Need-go-on-requires
+go-on-requires c κs = let known = ready (c .before .before .before .before) in (known .flow, known .first-below)
 
-field-requires-2 : tie.Need-field-requires-2
-field-requires-2 c κs = ready (c .before .before .before .before .before .before .before .before) .flow
+leave-requires : tie.Need-leave-requires
+leave-requires c κs = let known = ready (c .before .before .before .before .before .before) in (known .flow, known .waits)
 
 advance-requires : tie.Need-advance-requires
 advance-requires c κs =
-    let soon = c .before .before .before .before .before .before .before .before .before .before .before .before in
-    let known = ready soon in
-    let leap = leap-most _ _ _ _ (c .before .before .before .before .before .before .before .before .before .leap .ensures) in
-    ((known .flow, known .lengths-lent, known .handles-lent), (omega (arith, leap, known .clock, known .width), omega (arith, known .link)))
+    let known = ready (c .before .before .before .before .before .before .before .before .before .before) in
+    let leap = leap-most _ _ _ _ (c .before .before .before .before .before .before .before .leap .ensures) in (
+      (known .flow, known .lengths-lent, known .handles-lent),
+      (omega (arith, leap, known .clock, known .width), omega (arith, known .link)),
+    )
 
-add-put-field : tie.Need-add-put-field
-add-put-field c = omega (arith, ready (gone-at (c .before .before .before .before .before .before .before)) .first-below, c .before .before .before .before .before .before .before .before .before .before .before .before .before .before .field .ensures)
-
-put-field-requires : tie.Need-put-field-requires
-put-field-requires c κs = ready (gone-at (c .before .before .before .before .before .before .before)) .flow
-
-sub-put-field : tie.Need-sub-put-field
-sub-put-field c = omega (arith, ready (gone-at (c .before .before .before .before .before .before .before .before .before)) .waits, c .before .before .before .before .before .before .before .before .before .before .before .before .before .field2 .ensures)
-
-put-field-requires-2 : tie.Need-put-field-requires-2
-put-field-requires-2 c κs = ready (gone-at (c .before .before .before .before .before .before .before .before .before)) .flow
-
-field-requires-3 : tie.Need-field-requires-3
-field-requires-3 c κs = ready (gone-at (c .before .before .before .before .before .before .before .before .before .before .before .before .before .before)) .flow
+field-requires : tie.Need-field-requires
+field-requires c κs = ready (gone-at (c .before .before .before .before .before .before .before .before .before .before)) .flow
 
 cost-at-requires : tie.Need-cost-at-requires
 cost-at-requires c κs =
-    let known = ready (gone-at (c .before .before .before .before .before .before .before .before .before .before .before .before .before .before .before)) in
-    (omega (arith, known .share-low, c .field3 .ensures), omega (arith, known .share-high, c .field3 .ensures), known .table-right)
+    let known = ready (gone-at (c .before .before .before .before .before .before .before .before .before .before .before)) in
+    (omega (arith, known .share-low, c .field .ensures), omega (arith, known .share-high, c .field .ensures), known .table-right)
 
 front-tag-requires : tie.Need-front-tag-requires
 front-tag-requires c κs =
-    let gone = c .before .before .before .before .before .before .before .before .before .before .before .before .before .before .before .before in
-    let counted = gone .before .before .before .before in
-    let leapt = counted .before .before .before .before .before .before in
-    let soon = gone-at gone in
-    let args = begun (lent-at (soon .before .before .before .before .before .before .before)) .args in
+    let gone = c .before .before .before .before .before .before .before .before .before .before .before .before in
+    let left = gone .before .before .before .before in
+    let on = left .before .before in
+    let leapt = on .before .before in
+    let soon = leapt .before .before .before in
+    let chosen = soon .before .before .before in
+    let formed = chosen .before .before .before .before in
+    let passed = lent-at formed in
+    let args = begun passed .args in
     let known = ready soon in
-    let short = rw (← counted .before .before .before .field .ensures) at (known .short) in
+    let short = rw (← on .go-on .ensures .0) at (known .short) in
     let leap = leap-most _ _ _ _ (leapt .leap .ensures) in
     let late = gone-most (gone .advance .result) _ _ (leapt .leap .result .clock .0) (args .t1 .link .0) (args .lengths .now)
     (args .handles .now) (gone .advance .ensures .0) short in
     (known .tag, omega (arith, late, leap, known .clock, known .width))
 
 put-tag-requires : tie.Need-put-tag-requires
-put-tag-requires c κs = ready (gone-at (c .before .before .before .before .before .before .before .before .before .before .before .before .before .before .before .before .before .before)) .flow
+put-tag-requires c κs = ready (gone-at (c .before .before .before .before .before .before .before .before .before .before .before .before .before .before)) .flow
 
 same-length : tie.Need-same-length
 same-length c = search needs
@@ -174,19 +167,20 @@ returns-5 c =
     let fronted = c .before .before in
     let costed = fronted .before in
     let more = costed .before .before .before .before .before in
-    let fewer = more .before in
-    let gone = fewer .before .before .before .before .before .before .before .before .before .before in
-    let counted = gone .before .before .before .before in
-    let soon = counted .before .before .before .before .before .before .before .before .before in
+    let gone = more .before .before .before .before .before .before .before in
+    let left = gone .before .before .before .before in
+    let on = left .before .before in
+    let leapt = on .before .before in
+    let soon = leapt .before .before .before in
     let chosen = soon .before .before .before in
     let formed = chosen .before .before .before .before in
     let passed = lent-at formed in
     let args = begun passed .args in
     picked-more (args .t1) (args .lengths .now) (args .handles .now) _ (passed .before .are-lent .ensures) (passed .if1 .left) _
     (formed .before .is-formed .ensures) (formed .if2 .left) _ (chosen .choose .ensures)
-    (soon .before .if3 .left) (soon .if4 .left) _ _ _ _ _ _ _ _ (counted .before .before .before .before .before .before .leap .ensures) (counted .before .before .before .field .ensures)
-    (counted .field2 .ensures) (gone .advance .ensures) (fewer .before .before .put-field .ensures) (fewer .put-field2 .ensures) _ _ _ _
-    (more .if5 .taken) (costed .before .field3 .ensures) (costed .cost-at .ensures) (fronted .front-tag .ensures)
+    (soon .before .if3 .left) (soon .if4 .left) _ _ _ _ _ _ _ _ (leapt .leap .ensures) (on .go-on .ensures .0)
+    (left .leave .ensures .0) (gone .advance .ensures) (on .go-on .ensures .1) (left .leave .ensures .1) _ _ _ _
+    (more .if5 .taken) (costed .before .field .ensures) (costed .cost-at .ensures) (fronted .front-tag .ensures)
     (c .put-tag .ensures)
 
 same-length-11 : tie.Need-same-length-11
@@ -197,18 +191,19 @@ same-length-12 c = search needs
 
 returns-6 : tie.Need-returns-6
 returns-6 c =
-    let fewer = c .before in
-    let gone = fewer .before .before .before .before .before .before .before .before .before .before in
-    let counted = gone .before .before .before .before in
-    let soon = counted .before .before .before .before .before .before .before .before .before in
+    let gone = c .before .before .before .before .before .before .before in
+    let left = gone .before .before .before .before in
+    let on = left .before .before in
+    let leapt = on .before .before in
+    let soon = leapt .before .before .before in
     let chosen = soon .before .before .before in
     let formed = chosen .before .before .before .before in
     let passed = lent-at formed in
     let args = begun passed .args in
     picked-last (args .t1) (args .lengths .now) (args .handles .now) _ (passed .before .are-lent .ensures) (passed .if1 .left) _
     (formed .before .is-formed .ensures) (formed .if2 .left) _ (chosen .choose .ensures)
-    (soon .before .if3 .left) (soon .if4 .left) _ _ _ _ _ _ _ _ (counted .before .before .before .before .before .before .leap .ensures) (counted .before .before .before .field .ensures)
-    (counted .field2 .ensures) (gone .advance .ensures) (fewer .before .before .put-field .ensures) (fewer .put-field2 .ensures)
+    (soon .before .if3 .left) (soon .if4 .left) _ _ _ _ _ _ _ _ (leapt .leap .ensures) (on .go-on .ensures .0)
+    (left .leave .ensures .0) (gone .advance .ensures) (on .go-on .ensures .1) (left .leave .ensures .1)
     (c .if5 .left)
 
 pub pick-spec : {M : Type 1} → statement M
@@ -220,14 +215,10 @@ pick-spec =
     is-formed-requires
     choose-requires
     leap-requires
-    field-requires
-    field-requires-2
+    go-on-requires
+    leave-requires
     advance-requires
-    add-put-field
-    put-field-requires
-    sub-put-field
-    put-field-requires-2
-    field-requires-3
+    field-requires
     cost-at-requires
     front-tag-requires
     put-tag-requires
