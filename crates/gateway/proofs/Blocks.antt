@@ -5,7 +5,7 @@ use mathlib.Core.Bool.{Bool, true, false, cond}
 use mathlib.Core.List.{List, [], _∷_, _++_, append-assoc, append-nil}
 use Prim.Native.Nat.{ℕ, _+_, _*_, _/_, _%_, _^_, _≤_, _<_}
 use native.Mathlib.Omega.{arith}
-use lib.ListN.{length, getD, set, take, drop, replicate, length-append, length-drop}
+use lib.ListN.{length, getD, set, drop, replicate, length-append, length-drop}
 use lib.Seq.{take-at, drop-at, drop-drop, drop-length}
 use mir.Val.{boolByte}
 use borrow.Rule.Slice.PartMut.{putMid}

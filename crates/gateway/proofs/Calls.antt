@@ -4,13 +4,12 @@ use mathlib.Core.Path.{_≡_, refl, sym, ap, _∙_}
 use mathlib.Core.Bool.{Bool}
 use mathlib.Core.List.{List, []}
 use Prim.Native.Nat.{ℕ, _+_, _*_, _%_, _^_}
-use native.Mathlib.Omega.{arith}
 use lib.ListN.{length}
 use borrow.Author.Tests.{eq-eqb, ne-eqb}
 use borrow.Rule.Slice.PartMut.{putMid}
 use Rattle.reply.specs.Reply.{Reply, idle, done, refused, refusal, packet, replyNumber, replyFlow}
 use Rattle.reply.specs.Reply.{openingReply, arrivalReply}
-use Rattle.reply.specs.Replies.{told, refused-done}
+use Rattle.reply.specs.Replies.{told, idle-done, idle-refused}
 use Rattle.reply.specs.declared.ArrivalReply.{ArrivalReply}
 use Rattle.reply.specs.declared.OpeningReply.{OpeningReply}
 use Rattle.reply.specs.declared.Refusal.{Refusal}
@@ -35,13 +34,6 @@ use Rattle.gateway.proofs.Following.{Follows, arrival-follows, pick-fol
 -- a refusal's number is the one that the caller is told
 number-told : (why : Refusal) → replyNumber (refusal why) ≡ numberOf (refusal why)
 number-told why = rw (told why .says)
-
--- a reply that is not idle
-done-busy : {values : List ℕ} → done values ≡ idle → ⊥
-done-busy e = let z : _≡_ {A = ℕ} 0 1 = cc in absurd (omega arith)
-
-refused-busy : {number flow : ℕ} → refused number flow ≡ idle → ⊥
-refused-busy e = let z : _≡_ {A = ℕ} 0 1 = cc in absurd (omega arith)
 
 -- an outcome as it is told to the caller
 module _ (tell : Reply → ℕ) (lent : gateway.Lent) (next : Record) (lengths handles : List ℕ) (o : Outcome) where
@@ -78,7 +70,7 @@ module _ (block lengths handles : List ℕ) (h : length block ≡ 131) (at : Rep
   block-refused : (number flow : ℕ) → reply ≡ refused number flow
       → (stepWords block next (at reply) ≡ block) × (lengths' ≡ lengths) × (handles' ≡ handles)
   block-refused number flow e = let same = F .same number flow e in (
-    block-done (λ z. refused-busy (sym e ∙ z)) ∙ ap (λ (s : State). wordsOf (s .held)) same ∙ words-of-record block h,
+    block-done (λ z. idle-refused (sym z ∙ e)) ∙ ap (λ (s : State). wordsOf (s .held)) same ∙ words-of-record block h,
     ap (λ (s : State). s .lengths) same,
     ap (λ (s : State). s .handles) same,
   )
@@ -158,7 +150,7 @@ module _ (flow bytes handle : ℕ) (block lengths handles : List ℕ) where
         (done-told numberOf _ next lengths' handles' _ [] block'
         (ap (λ (a : ArrivalReply). outcome (arrivalReply a) next lengths' handles') (sym q) ∙ e)
         (b ∙ block-done block lengths handles h (λ _. flow % 64) (arrivalReply reply) next lengths' handles' follows
-        (λ z. done-busy (sym (ap arrivalReply q) ∙ z))))
+        (λ z. idle-done (sym z ∙ ap arrivalReply q))))
 
 module _ (block lengths handles reply : List ℕ) where
   pub pick-unblocked : (length block ≡ 131 → ⊥)
@@ -209,4 +201,4 @@ module _ (block lengths handles reply : List ℕ) where
         (done-told numberOf (lending block lengths handles reply) next lengths' handles' _ reply' block'
         (ap told-as (d ∙ ap pickReply (sym q)) ∙ e)
         (rw (b, g) (block-done block lengths handles h flowIn (pickReply answer) next lengths' handles' pick-followed
-        (λ z. done-busy (d ∙ ap pickReply (sym q) ∙ z)))))
+        (λ z. idle-done (sym (d ∙ ap pickReply (sym q) ∙ z))))))

@@ -1,19 +1,19 @@
 -- The words that a call writes make the block of the next record: five words, and at Idle the tags.
 -- Assumes nothing.
-use mathlib.Core.Path.{_≡_, refl, sym, ap, ap₂, _∙_}
+use mathlib.Core.Path.{_≡_, refl, sym, ap, _∙_}
 use mathlib.Core.List.{List, [], _∷_, _++_}
-use Prim.Native.Nat.{ℕ, zero, suc, _+_, _*_, _/_, _^_, _<_}
+use Prim.Native.Nat.{ℕ, suc, _+_, _*_, _/_, _^_, _<_}
 use native.Mathlib.Nat.{zero-add, suc-add}
 use native.Mathlib.Decide.{ℕ-discrete}
 use native.Mathlib.Omega.{arith}
 use lib.ListN.{length, getD, set, length-set}
-use lib.Seq.{getD-set-same, getD-set-other, set-append-left, set-getD, ext-getD, drop-at}
+use lib.Seq.{getD-set-same, getD-set-other, set-append-left, ext-getD, drop-at}
 use borrow.Rule.Slice.PartMut.{putMid}
 use Rattle.queues.specs.Opening.{field64}
 use Rattle.queues.specs.Laws.{field-length}
 use Rattle.uplink.specs.Record.{tagOf, with, tagsOf}
 use Rattle.uplink.specs.declared.Record.{Record}
-use Rattle.gateway.specs.Image.{fourAt, fieldWords, part, wordsOf, recordOf}
+use Rattle.gateway.specs.Image.{fourAt, fieldWords, wordsOf, recordOf}
 use Rattle.gateway.specs.Images.{words-length, field-word, field-same, rows-read, words-of-record}
 use Rattle.gateway.specs.Step.{stepWords, Kept}
 

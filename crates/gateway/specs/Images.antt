@@ -1,14 +1,14 @@
 -- Words and record undo each other: a record whose fields fit their types is told by its 131 words, and any 131 words are
 -- those of the record that they tell.
 -- Assumes nothing.
-use mathlib.Core.Path.{_≡_, refl, sym, ap, ap₂, _∙_}
-use mathlib.Core.List.{List, [], _∷_, _++_}
+use mathlib.Core.Path.{_≡_, refl, sym, ap, _∙_}
+use mathlib.Core.List.{List, _∷_, _++_}
 use Prim.Native.Nat.{ℕ, zero, suc, _+_, _-_, _*_, _/_, _%_, _^_, _≤_, _<_}
 use native.Mathlib.Nat.{zero-add}
 use native.Mathlib.Omega.{arith}
-use lib.ListN.{length, getD, take, drop, length-append, length-drop, take-append-drop}
+use lib.ListN.{length, getD, drop, length-drop, take-append-drop}
 use lib.Seq.{ext-getD, take-all, drop-cons, drop-drop, length-take-le, take-at, drop-at}
-use Rattle.below.specs.Listed.{listed, listed-at, length-listed}
+use Rattle.below.specs.Listed.{listed-at, length-listed}
 use Rattle.queues.specs.Opening.{field64}
 use Rattle.queues.specs.Laws.{field-at, field-length}
 use Rattle.uplink.specs.Record.{Rows}

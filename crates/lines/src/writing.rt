@@ -3,7 +3,7 @@ ghost use mathlib.Core.Path.{_≡_};
 ghost use mathlib.Core.Bool.{cond};
 ghost use Prim.Native.Nat.{_+_, _*_, _≤_};
 ghost use lib.ListN.{length};
-ghost use Rattle.reply.specs.Reply.{idle, refusal, openingReply, arrivalReply};
+ghost use Rattle.reply.specs.Reply.{idle, openingReply, arrivalReply};
 ghost use Rattle.uplink.specs.PickReply.{pickReply};
 ghost use Rattle.lines.specs.Text.{Put};
 ghost use Rattle.lines.specs.Output.{fieldText, lineText};

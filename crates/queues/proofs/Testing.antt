@@ -11,7 +11,7 @@ use lib.Bits.{bitOr}
 use lib.ListN.{getD}
 use borrow.Author.Tests.{not-true, not-false, le-leb, lt-leb}
 use Rattle.below.specs.Below.{allBelow, allBelow-at, sumBelow, sumBelow-more, mostBelow, mostBelow-more}
-use Rattle.below.specs.Faults.{no-fault, four-faults, not-over, fault-turn, rest-turn, both-below}
+use Rattle.below.specs.Faults.{four-faults, not-over, fault-turn, rest-turn, both-below}
 use Rattle.cost.specs.Cost.{within, within-of, costOf}
 use Rattle.cost.specs.Charge.{chargeTicks}
 use Rattle.queues.specs.Queue.{bookedTicks}

@@ -1,17 +1,17 @@
 -- What callers draw from the definitions of the queue's side: each Bool of the form as plain facts and back, the places
 -- of a ring, and the queues of a table as it opens.
 -- Assumes nothing.
-use mathlib.Core.Path.{_≡_, refl, ap, _∙_}
+use mathlib.Core.Path.{_≡_, refl, _∙_}
 use mathlib.Core.Bool.{Bool, true, false, cond, _&&_}
 use mathlib.Core.List.{List, []}
-use Prim.Native.Nat.{ℕ, zero, suc, _+_, _*_, _≤_, _<_}
+use Prim.Native.Nat.{ℕ, zero, suc, _≤_, _<_}
 use native.Mathlib.Nat.{zero-add}
 use native.Mathlib.Omega.{arith}
 use lib.Dec.{leb, ltb, eqb}
 use lib.ListN.{length, getD, replicate, length-replicate}
 use borrow.Author.Tests.{leb-true, ltb-true, eqb-true, le-leb}
 use Rattle.below.specs.Below.{allBelow-at, allBelow-of}
-use Rattle.below.specs.Listed.{listed, listed-at, length-listed}
+use Rattle.below.specs.Listed.{listed-at, length-listed}
 use Rattle.below.specs.Truth.{both-true}
 use Rattle.cost.specs.Cost.{within, within-of, within-bounds}
 use Rattle.reply.specs.Reply.{Reply, done, refused}

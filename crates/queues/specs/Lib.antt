@@ -1,7 +1,8 @@
 -- What people must believe of the queue's side, to be read beside document 01.
 -- `Queue`: one flow's bookings and ring of places. `Queues`: those of all flows, got and put. `Form`: when they are well
 -- formed. `Places`: the memories, joining and leaving. `Opening`: a table as it opens.
--- `Laws`: what callers draw from these. `Placed`, `Fence`: what the code's own steps need.
+-- `Laws`: what callers draw from these. `Openable`: what an opening that is not refused was handed. `Placed`, `Fence`:
+-- what the code's own steps need.
 pub mod Queue
 pub mod Queues
 pub mod Form
@@ -9,4 +10,5 @@ pub mod Places
 pub mod Opening
 pub mod Laws
 pub mod Placed
+pub mod Openable
 pub mod Fence

@@ -1,11 +1,11 @@
 -- The queues of all 64 flows, and the only file that knows how they are laid out: a queue got, a queue put, and the
 -- laws of getting and putting. Every engine's record holds `Queues`, and its rules speak of `queueAt` and `putQueue`.
 -- Assumes nothing.
-use mathlib.Core.Path.{_≡_, refl, _∙_}
+use mathlib.Core.Path.{_≡_, _∙_}
 use mathlib.Core.List.{List}
 use Prim.Native.Nat.{ℕ, _<_}
 use native.Mathlib.Omega.{arith}
-use lib.ListN.{getD, set, length, length-set, length-replicate, replicate}
+use lib.ListN.{getD, set, length, length-set, replicate}
 use lib.Seq.{getD-set-same, getD-set-other, set-getD}
 use Rattle.below.specs.Below.{sumBelow, mostBelow}
 use Rattle.queues.specs.Queue.{Queue, queueOf, bookedTicks}
@@ -90,12 +90,3 @@ pub put-left : (q : Queues) (f first waiting : ℕ)
     ≡ putQueue q f (queueOf (queueAt q f .share) (queueAt q f .largest) first waiting)
 unfolding putQueue
 put-left q f first waiting = rw (set-getD (q .share) f 0, set-getD (q .largest) f 0)
-
-pub blank-sized : Sized blankQueues
-blank-sized =
-    record {
-      share = length-replicate {A = ℕ} 64 0;
-      largest = length-replicate {A = ℕ} 64 0;
-      first = length-replicate {A = ℕ} 64 0;
-      waiting = length-replicate {A = ℕ} 64 0;
-    }

@@ -72,5 +72,11 @@ pub arrival-reply-one : (a b : ArrivalReply) → arrivalReply a ≡ arrivalReply
 arrival-reply-one = one arrivalReply arrivalOf arrival-read
 
 -- no reply is of two kinds
-pub refused-done : {A : Type 0} {n f : ℕ} {values : List ℕ} → refused n f ≡ done values → A
+pub refused-done : {A : Type 0} {number flow : ℕ} {values : List ℕ} → refused number flow ≡ done values → A
 refused-done e = let z : _≡_ {A = ℕ} 0 1 = cc in absurd (omega arith)
+
+pub idle-done : {A : Type 0} {values : List ℕ} → idle ≡ done values → A
+idle-done e = let z : _≡_ {A = ℕ} 0 1 = cc in absurd (omega arith)
+
+pub idle-refused : {A : Type 0} {number flow : ℕ} → idle ≡ refused number flow → A
+idle-refused e = let z : _≡_ {A = ℕ} 0 1 = cc in absurd (omega arith)

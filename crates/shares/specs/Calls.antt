@@ -2,14 +2,13 @@
 -- Assumes nothing.
 use mathlib.Core.Path.{_≡_, refl, sym, ap, _∙_}
 use mathlib.Core.Bool.{Bool, true, false, cond}
-use mathlib.Core.List.{[]}
 use Prim.Native.Nat.{ℕ, _+_, _*_, _≤_, _<_}
 use native.Mathlib.Omega.{arith}
 use lib.Dec.{ltb}
 use borrow.Author.Tests.{ltb-true, ltb-false, eq-eqb}
 use Rattle.below.specs.Truth.{both-of}
-use Rattle.cost.specs.Cost.{within, within-bounds}
-use Rattle.reply.specs.Reply.{Reply, idle, done, refused}
+use Rattle.reply.specs.Reply.{idle, refused, replyNumber}
+use Rattle.reply.specs.Replies.{refused-done, idle-done, idle-refused}
 use Rattle.queues.specs.Places.{lent}
 use Rattle.queues.specs.Laws.{join-cases}
 use Rattle.tags.specs.Ticks.{leaps, leapClock}
@@ -29,9 +28,7 @@ use Rattle.shares.specs.Store.{Joins, store-steady, store-table, store-s
 use Rattle.shares.specs.Serve.{serve-in-time, serve-steady, serve-table, serve-clock-on, serve-moves}
 use Rattle.shares.specs.Idle.{Nobody, idle-steady, idle-table}
 use Rattle.shares.specs.Runs.{somethingWaits, takeRule, Taken, Gives, Plain, chargeIn, chargeFor, valueIn}
-use Rattle.shares.specs.Runs.{refusalIn}
-use Rattle.shares.specs.Replies.{Late, refused-done, idle-done, idle-refused}
-use Rattle.shares.specs.Opened.{opening-late}
+use Rattle.shares.specs.Opened.{Late, opening-late}
 
 -- a call is refused: with no 1 or 2, and a pick with 10 alone, where something waits and the clock is at its limit
 pub record Refuses (s : State) (call : Call) (number : ℕ) : Type 0 where
@@ -172,7 +169,7 @@ module _ (s : State) (S : Steady s) (call : Call) (o : Outcome) (plain : Plain c
   call-refused p number flow = call-ways s S call o plain gives
       (λ o. o .reply ≡ refused number flow → (number ≡ 10) × (somethingWaits s ≡ true) × (clockLimit ≤ clockOf s))
       record {
-        refuses = λ m why e. let ten = why .ten p in (sym (ap refusalIn e) ∙ ten .0, ten .1, ten .2);
+        refuses = λ m why e. let ten = why .ten p in (sym (ap replyNumber e) ∙ ten .0, ten .1, ten .2);
         stores = λ f n handle joins e. refused-done (sym e);
         rests = λ _ nobody e. idle-refused e;
         serves = λ _ f small below e. refused-done (sym e);

@@ -3,7 +3,7 @@
 -- The argument, from numbers to runs. `Sum`: sums over the flows. `Own`: one flow's part of the backlog.
 -- `Keep`: the backlog and the tag bounds, kept by front, leap, serve and reset. `Start`: where a flow stands in its own
 -- time. `Bridge`: from the record to these. `Put`: one flow put anew. `Store`, `Serve`, `Idle`, `Opened`: an arrival,
--- a pick, an Idle, an opening. `Replies`: replies told apart. `Calls`: one call. `Stretches`: a stretch of calls.
+-- a pick, an Idle, an opening. `Calls`: one call. `Stretches`: a stretch of calls.
 pub mod Runs
 pub mod Shares
 pub mod Rule
@@ -17,7 +17,6 @@ pub mod Put
 pub mod Store
 pub mod Serve
 pub mod Idle
-pub mod Replies
 pub mod Opened
 pub mod Calls
 pub mod Stretches

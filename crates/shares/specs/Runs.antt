@@ -108,12 +108,6 @@ valueIn k idle = 0
 valueIn k (refused number flow) = 0
 valueIn k (done values) = getD values k 0
 
--- the number of a refusal
-abbrev pub refusalIn : Reply → ℕ
-refusalIn idle = 0
-refusalIn (refused number flow) = number
-refusalIn (done values) = 0
-
 -- a figure added up over the replies
 abbrev pub total : (Reply → ℕ) → List Event → ℕ
 total figure [] = 0

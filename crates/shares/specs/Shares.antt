@@ -7,13 +7,13 @@ use mathlib.Core.Bool.{true}
 use mathlib.Core.List.{List, [], _∷_}
 use Prim.Native.Nat.{ℕ, _+_, _*_, _≤_, _<_}
 use native.Mathlib.Omega.{arith}
-use Rattle.reply.specs.Reply.{done, refused}
+use Rattle.reply.specs.Reply.{done, refused, replyNumber}
 use Rattle.uplink.specs.Flow.{flowCost}
 use Rattle.uplink.specs.Record.{flowAt}
 use Rattle.uplink.specs.State.{State, Outcome}
 use Rattle.uplink.specs.Pick.{clockLimit}
 use Rattle.uplink.specs.Calls.{Call, pick}
-use Rattle.shares.specs.Runs.{somethingWaits, Gives, Event, Stretch, endOf, Carried, Restarted, refusalIn, picked}
+use Rattle.shares.specs.Runs.{somethingWaits, Gives, Event, Stretch, endOf, Carried, Restarted, picked}
 use Rattle.shares.specs.Runs.{pickedOf, leapsOf, WaitsAtPicks, NeverIdle}
 use Rattle.shares.specs.Bridge.{tableOf}
 use Rattle.shares.specs.Calls.{any-late, call-refused, call-in-time}
@@ -23,7 +23,7 @@ use Rattle.shares.specs.Stretches.{carried-steady, share-stretch, restar
 pub form-kept : {s : State} → Carried s → (call : Call) (o : Outcome) → Gives s call o
     → (flow : ℕ) → (o .reply ≡ refused 1 flow → ⊥) × (o .reply ≡ refused 2 flow → ⊥)
 form-kept {s} c call o gives flow = let late = any-late s (carried-steady c) call o gives in
-    (λ e. late .0 (ap refusalIn e), λ e. late .1 (ap refusalIn e))
+    (λ e. late .0 (ap replyNumber e), λ e. late .1 (ap replyNumber e))
 
 -- A carried pick is refused with 10 alone, and that where something waits and the clock is 2^62 or more.
 pub refused-ten : {s : State} → Carried s → (o : Outcome) → Gives s pick o → (number flow : ℕ)

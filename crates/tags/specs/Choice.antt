@@ -2,7 +2,7 @@
 -- theorems over several calls use the first alone. Tags and numbers waiting are given by the flow's number: nothing of
 -- a layout.
 -- Assumes nothing.
-use mathlib.Core.Bool.{Bool, true, false, cond}
+use mathlib.Core.Bool.{true, false, cond}
 use Prim.Native.Nat.{ℕ, zero, suc, _-_, _^_, _≤_, _<_}
 use lib.Dec.{leb, eqb}
 use Rattle.tags.specs.Ticks.{ticks}

@@ -2,7 +2,7 @@
 -- the number of flows their tags. Tags and numbers waiting are given by the flow's number: nothing of a layout.
 -- `src/form.rt` cites it, and so does the form of the record.
 -- Assumes nothing.
-use mathlib.Core.Bool.{Bool, cond, _&&_, _||_}
+use mathlib.Core.Bool.{Bool, cond, _||_}
 use Prim.Native.Nat.{ℕ, _+_, _*_}
 use lib.Dec.{leb, ltb, eqb}
 use Rattle.below.specs.Below.{allBelow}

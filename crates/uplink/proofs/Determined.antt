@@ -13,9 +13,6 @@ use denote.Ref.{now}
 use Rattle.reply.specs.Reply.{Reply, openingReply, arrivalReply}
 use Rattle.reply.specs.Replies.{opening-reply-one, arrival-reply-one}
 use Rattle.uplink.specs.declared.Record.{Record}
-use Rattle.uplink.specs.declared.Opened.{Opened}
-use Rattle.uplink.specs.declared.Arrived.{Arrived}
-use Rattle.uplink.specs.declared.Picked.{Picked}
 use Rattle.uplink.specs.PickReply.{pickReply, pick-reply-one}
 use Rattle.uplink.specs.State.{Outcome, outcome}
 use Rattle.uplink.proofs.Record.opening as opening

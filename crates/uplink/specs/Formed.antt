@@ -1,7 +1,7 @@
 -- What a well-formed record gives its callers, and what makes one: the form's Bool and its sentences say the same.
 -- `Formed` has a field for each sentence; `formed-out` and `formed-in` go between the two.
 -- Assumes nothing.
-use mathlib.Core.Path.{_≡_, refl}
+use mathlib.Core.Path.{_≡_}
 use mathlib.Core.Bool.{Bool, true, _&&_}
 use mathlib.Core.List.{List}
 use Prim.Native.Nat.{ℕ, _^_, _≤_, _<_}
@@ -17,7 +17,7 @@ use Rattle.queues.specs.Form.{counts, booked, placed, ranged, queueFormed, tabl
 use Rattle.queues.specs.Laws.{ranged-out, spare-out, spare-in}
 use Rattle.tags.specs.Form.{tagFormed, tagsFormed}
 use Rattle.tags.specs.Laws.{tag-at-most}
-use Rattle.uplink.specs.Flow.{Flow, noFlow, flowOf, spareFlow}
+use Rattle.uplink.specs.Flow.{Flow, noFlow, spareFlow}
 use Rattle.uplink.specs.Record.{flowAt, tagOf, waitingOf}
 use Rattle.uplink.specs.Form.{clockEnd, clocksFormed, restSpare, formed}
 use Rattle.uplink.specs.declared.Record.{Record}

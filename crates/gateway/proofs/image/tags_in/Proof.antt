@@ -1,7 +1,6 @@
 -- `gateway::image::tags_in` meets its contract. The loop's invariant: the tags before k are the words'. The measure is what
 -- is left of the 64.
 -- Assumes nothing.
-use mathlib.Core.Path.{_≡_, sym}
 use Prim.Native.Nat.{_≤_, _-_}
 use native.Mathlib.Omega.{arith}
 use lib.ListN.{replicate}

@@ -3,7 +3,7 @@
 use native.Mathlib.Omega.{arith}
 use lib.ListN.{length-set}
 use borrow.Author.Needs.{needs}
-use Rattle.gateway.proofs.Blocks.{filled-length, filled-head, filled-tags, filled-share, filled-largest, filled-first, filled-all, record-written}
+use Rattle.gateway.proofs.Blocks.{filled-length, filled-tags, filled-share, filled-largest, filled-first, filled-all, record-written}
 use Rattle.gateway.proofs.image.write_record.Statement.{statement}
 use Rattle.gateway.proofs.image.write_record.Tie as tie
 

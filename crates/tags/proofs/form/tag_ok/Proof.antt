@@ -1,6 +1,5 @@
 -- `tags::form::tag_ok` meets its contract: each way through it is one case of the definition.
 -- Assumes nothing.
-use native.Mathlib.Omega.{arith}
 use borrow.Author.Needs.{needs}
 use Rattle.tags.proofs.Forming.{idle-tag, waiting-tag}
 use Rattle.tags.proofs.form.tag_ok.Statement.{statement}

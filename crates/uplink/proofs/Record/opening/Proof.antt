@@ -2,7 +2,8 @@
 -- Assumes nothing.
 use native.Mathlib.Omega.{arith}
 use borrow.Author.Needs.{needs}
-use Rattle.uplink.proofs.Opens.{openable, small-lists, opened-shares, width-fits, opening-refused, opening-done}
+use Rattle.queues.specs.Openable.{small-lists, opened-shares, width-fits}
+use Rattle.uplink.proofs.Opens.{taken, opening-refused, opening-done}
 use Rattle.uplink.proofs.Record.opening.Statement.{statement}
 use Rattle.uplink.proofs.Record.opening.Tie as tie
 
@@ -22,30 +23,26 @@ cast-flows : tie.Need-cast-flows
 cast-flows c =
     let told = c .before in
     let args = told .before .before .before .before .before .before .before .before .before .before .args in
-    omega (
-      arith,
-      openable (args .shares .now) (args .largest .now) (args .lengths .now) (args .handles .now) _
-          (told .before .before .opening-reply .ensures) (told .enum-told .given .1) .few,
-    )
+    let o = taken (args .shares .now) (args .largest .now) (args .lengths .now) (args .handles .now) _
+        (told .before .before .opening-reply .ensures) (told .enum-told .given .1) in
+    omega (arith, o .few)
 
 opened-requires : tie.Need-opened-requires
 opened-requires c κs =
     let told = c .before in
     let args = told .before .before .before .before .before .before .before .before .before .before .args in
-    small-lists (args .shares .now) (args .largest .now) (args .lengths .now) (args .handles .now) _
-    (told .before .before .opening-reply .ensures) (told .enum-told .given .1)
+    let o = taken (args .shares .now) (args .largest .now) (args .lengths .now) (args .handles .now) _
+        (told .before .before .opening-reply .ensures) (told .enum-told .given .1) in
+    small-lists _ _ _ _ o
 
 widest-requires : tie.Need-widest-requires
 widest-requires c κs =
     let opened = c .before .before .before .before in
     let told = opened .before .before in
-    let args = told .before .before .before .before .before .before .before .before .before .before .args in (
-      openable (args .shares .now) (args .largest .now) (args .lengths .now) (args .handles .now) _
-          (told .before .before .opening-reply .ensures) (told .enum-told .given .1) .few,
-      opened .before .table .ensures,
-      opened-shares (args .shares .now) (args .largest .now) (args .lengths .now) (args .handles .now) _
-          (told .before .before .opening-reply .ensures) (told .enum-told .given .1) _ (opened .opened .ensures),
-    )
+    let args = told .before .before .before .before .before .before .before .before .before .before .args in
+    let o = taken (args .shares .now) (args .largest .now) (args .lengths .now) (args .handles .now) _
+        (told .before .before .opening-reply .ensures) (told .enum-told .given .1) in
+    (o .few, opened .before .table .ensures, opened-shares _ _ _ _ o _ (opened .opened .ensures))
 
 clear-lengths-requires : tie.Need-clear-lengths-requires
 clear-lengths-requires c κs = search needs
@@ -55,14 +52,13 @@ clear-handles-requires c κs = search needs
 
 cast-next : tie.Need-cast-next
 cast-next c =
-    let opened = c .before .before .before .before .before .before .before .before .before .before .before .before .before in
+    let wide = c .before .before .before .before .before .before .before .before in
+    let opened = wide .before .before .before .before .before in
     let told = opened .before .before in
     let args = told .before .before .before .before .before .before .before .before .before .before .args in
-    omega (
-      arith,
-      width-fits (args .shares .now) (args .largest .now) (args .lengths .now) (args .handles .now) _
-          (told .before .before .opening-reply .ensures) (told .enum-told .given .1) _ (opened .opened .ensures) _ (c .before .before .before .before .before .before .before .before .widest .ensures),
-    )
+    let o = taken (args .shares .now) (args .largest .now) (args .lengths .now) (args .handles .now) _
+        (told .before .before .opening-reply .ensures) (told .enum-told .given .1) in
+    omega (arith, wide .widest .ensures, width-fits _ _ _ _ o _ (opened .opened .ensures))
 
 enum-told-2 : tie.Need-enum-told-2
 enum-told-2 c = search needs
@@ -75,12 +71,17 @@ same-length-2 c = search needs
 
 returns : tie.Need-returns
 returns c =
-    let opened = c .before .before .before .before .before .before .before .before .before .before .before .before .before in
+    let wide = c .before .before .before .before .before .before .before .before in
+    let opened = wide .before .before .before .before .before in
     let told = opened .before .before in
     let args = told .before .before .before .before .before .before .before .before .before .before .args in
     opening-done (args .shares .now) (args .largest .now) (args .lengths .now) (args .handles .now) _
-    (told .before .before .opening-reply .ensures) (told .enum-told .given .1) _ (opened .opened .ensures) _ _ _ _
-    (told .before .before .before .before .before .blank .ensures) (c .before .before .before .before .before .before .before .before .widest .ensures) (c .before .before .before .before .before .before .clear-lengths .ensures) (c .before .before .clear-handles .ensures)
+    (told .before .before .opening-reply .ensures) (told .enum-told .given .1) _ _ _ _ _
+    (opened .opened .ensures)
+    (told .before .before .before .before .before .blank .ensures)
+    (wide .widest .ensures)
+    (c .before .before .before .before .before .before .clear-lengths .ensures)
+    (c .before .before .clear-handles .ensures)
 
 same-length-3 : tie.Need-same-length-3
 same-length-3 c = search needs
@@ -92,7 +93,8 @@ returns-2 : tie.Need-returns-2
 returns-2 c =
     let args = c .before .before .before .before .before .before .before .before .before .before .args in
     opening-refused (args .shares .now) (args .largest .now) (args .lengths .now) (args .handles .now) _
-    (c .before .before .opening-reply .ensures) _ _ (c .before .before .before .before .before .blank .ensures) (c .enum-told2 .given .1)
+    (c .before .before .opening-reply .ensures) _ _
+    (c .before .before .before .before .before .blank .ensures) (c .enum-told2 .given .1)
 
 pub opening-spec : {M : Type 1} → statement M
 opening-spec =
