@@ -46,7 +46,8 @@ entries-more words k field h c =
 -- the five words of a step
 pub step-made : (words : List ℕ) (r : Record) (f : ℕ) (tag : ServerTicks) (first waiting : ℕ) → tag .0 ≡ tagOf r f
     → first ≡ fourAt (r .queues .first) (f / 4) → waiting ≡ fourAt (r .queues .waiting) (f / 4)
-    → set (set (set (set (set words 1 (r .clock .0)) 2 (r .link .0)) (3 + f) (tag .0)) (99 + f / 4) first) (115 + f / 4) waiting
+    → set (set (set (set (set words 1 (r .clock .0)) 2 (r .link .0)) (3 + f) (tag .0)) (99 + f / 4) first)
+    (115 + f / 4) waiting
     ≡ stepWords words r f
 step-made words r f tag first waiting t a b = rw (t, a, b)
 
@@ -118,7 +119,8 @@ module _ (w0 : List ℕ) (long : length w0 ≡ 131) (r : Record) where
     block1 = putMid 3 64 block0 tags
 
     pub filled-tags : Filled w0 67 (head ++ tags) block1
-    filled-tags = filled-more w0 3 head block0 filled-head 64 tags (rw t (field-length (r .tags .0))) (omega (arith, long))
+    filled-tags =
+        filled-more w0 3 head block0 filled-head 64 tags (rw t (field-length (r .tags .0))) (omega (arith, long))
 
     module _ (share : List ℕ) (s : share ≡ fieldWords (r .queues .share)) where
       abbrev block2 : List ℕ
@@ -132,25 +134,30 @@ module _ (w0 : List ℕ) (long : length w0 ≡ 131) (r : Record) where
         block3 = putMid 83 16 block2 largest
 
         pub filled-largest : Filled w0 99 (head ++ tags ++ share ++ largest) block3
-        filled-largest = filled-more w0 83 _ block2 filled-share 16 largest (rw l (words-length _)) (omega (arith, long))
+        filled-largest =
+            filled-more w0 83 _ block2 filled-share 16 largest (rw l (words-length _)) (omega (arith, long))
 
         module _ (first : List ℕ) (f : first ≡ fieldWords (r .queues .first)) where
           abbrev block4 : List ℕ
           block4 = putMid 99 16 block3 first
 
           pub filled-first : Filled w0 115 (head ++ tags ++ share ++ largest ++ first) block4
-          filled-first = filled-more w0 99 _ block3 filled-largest 16 first (rw f (words-length _)) (omega (arith, long))
+          filled-first =
+              filled-more w0 99 _ block3 filled-largest 16 first (rw f (words-length _)) (omega (arith, long))
 
           module _ (waiting : List ℕ) (w : waiting ≡ fieldWords (r .queues .waiting)) where
-            pub filled-all : Filled w0 131 (head ++ tags ++ share ++ largest ++ first ++ waiting) (putMid 115 16 block4 waiting)
-            filled-all = filled-more w0 115 _ block4 filled-first 16 waiting (rw w (words-length _)) (omega (arith, long))
+            pub filled-all : Filled w0 131 (head ++ tags ++ share ++ largest ++ first ++ waiting)
+                (putMid 115 16 block4 waiting)
+            filled-all =
+                filled-more w0 115 _ block4 filled-first 16 waiting (rw w (words-length _)) (omega (arith, long))
 
             pub record-written : putMid 115 16 block4 waiting ≡ wordsOf r
             unfolding wordsOf
             record-written =
                 let none : drop 131 w0 ≡ [] = ap (λ n. drop n w0) (sym long) ∙ drop-length w0 in
                 filled-all .so-far ∙ ap (λ rest. head ++ tags ++ share ++ largest ++ first ++ waiting ++ rest) none
-                ∙ append-nil (head ++ tags ++ share ++ largest ++ first ++ waiting) ∙ ap (λ rest. head ++ rest) (regroup tags share largest first waiting) ∙ rw (t, s, l, f, w)
+                ∙ append-nil (head ++ tags ++ share ++ largest ++ first ++ waiting)
+                ∙ ap (λ rest. head ++ rest) (regroup tags share largest first waiting) ∙ rw (t, s, l, f, w)
 
 -- six stores make a list of six
 six : (l : List ℕ) (a b c d e f : ℕ) → length l ≡ 6

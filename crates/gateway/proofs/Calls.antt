@@ -103,7 +103,14 @@ module _ (shares largest block lengths handles : List ℕ) where
         = sym (by-reply (listsReply shares largest lengths handles)) ∙ sym (ap (λ (o : Outcome). o .reply) e)
         ∙ ap openingReply q ∙ t .says in
         let m = ap (λ (o : Outcome). o .state) e ∙ ap (λ reply. by reply .state) given in
-        rw (ap (λ (s : State). s .lengths) m, ap (λ (s : State). s .handles) m, eq-eqb (length block) 131 h, n, f, number-told why)
+        rw (
+          ap (λ (s : State). s .lengths) m,
+          ap (λ (s : State). s .handles) m,
+          eq-eqb (length block) 131 h,
+          n,
+          f,
+          number-told why,
+        )
         (refused-told withFlow _ next lengths' handles' _ why
         (ap (λ (a : OpeningReply). outcome (openingReply a) next lengths' handles') (sym q) ∙ e))
 
@@ -124,7 +131,8 @@ module _ (flow bytes handle : ℕ) (block lengths handles : List ℕ) where
 
   module _ (block' lengths' handles' : List ℕ) (reply : ArrivalReply) (held next : Record) (h : length block ≡ 131)
       (r : held ≡ recordOf block)
-      (e : outcome (arrivalReply reply) next lengths' handles' ≡ arrivalRule (state held lengths handles) flow bytes handle)
+      (e : outcome (arrivalReply reply) next lengths' handles'
+      ≡ arrivalRule (state held lengths handles) flow bytes handle)
       (b : block' ≡ stepWords block next (flow % 64)) where
     follows : Follows (state (recordOf block) lengths handles) (λ _. flow % 64)
         (outcome (arrivalReply reply) next lengths' handles')
@@ -136,7 +144,8 @@ module _ (flow bytes handle : ℕ) (block lengths handles : List ℕ) where
         ≡ gatewayArrival flow bytes handle (lending block lengths handles [])
     unfolding gatewayArrival
     arrival-refused why number q n =
-        let s = block-refused block lengths handles h (λ _. flow % 64) (arrivalReply reply) next lengths' handles' follows
+        let s = block-refused block lengths handles h (λ _. flow % 64)
+        (arrivalReply reply) next lengths' handles' follows
         (told why .number) (told why .flow) (ap arrivalReply q ∙ told why .says) in
         rw (b, s .0, s .1, s .2, eq-eqb (length block) 131 h, n, number-told why, ← r)
         (refused-told numberOf _ next lengths' handles' _ why
@@ -163,17 +172,20 @@ module _ (block lengths handles reply : List ℕ) where
   unfolding gatewayPick
   pick-unreplied h k = rw (eq-eqb (length block) 131 h, ne-eqb (length reply) 6 k)
 
-  module _ (block' lengths' handles' : List ℕ) (answer : PickReply) (held next : Record) (f : ℕ) (h : length block ≡ 131)
+  module _ (block' lengths' handles' : List ℕ) (answer : PickReply) (held next : Record) (f : ℕ)
+      (h : length block ≡ 131)
       (k : length reply ≡ 6) (r : held ≡ recordOf block)
       (e : outcome (pickReply answer) next lengths' handles' ≡ pickRule (state held lengths handles))
       (g : f ≡ flowIn (pickReply answer)) (b : block' ≡ stepWords block next f) where
-    pick-followed : Follows (state (recordOf block) lengths handles) flowIn (outcome (pickReply answer) next lengths' handles')
+    pick-followed : Follows (state (recordOf block) lengths handles) flowIn
+        (outcome (pickReply answer) next lengths' handles')
     pick-followed = rw (e, r) (pick-follows (state (recordOf block) lengths handles) (rows-read block h))
 
     abbrev told-as : Reply → Outcome
     told-as a = outcome a next lengths' handles'
 
-    pub pick-refused : (why : Refusal) (number : ℕ) → answer ≡ PickReply.Refused why → number ≡ replyNumber (refusal why)
+    pub pick-refused : (why : Refusal) (number : ℕ) → answer ≡ PickReply.Refused why
+        → number ≡ replyNumber (refusal why)
         → answered number (lending block' lengths' handles' reply) ≡ gatewayPick (lending block lengths handles reply)
     unfolding gatewayPick
     pick-refused why number q n =
@@ -189,7 +201,8 @@ module _ (block lengths handles reply : List ℕ) where
     pick-idle tags q t = rw (eq-eqb (length block) 131 h, eq-eqb (length reply) 6 k, ← r)
         (idle-told numberOf (lending block lengths handles reply) next lengths' handles' _ (putMid 3 64 block' tags)
         (ap told-as (ap pickReply (sym q)) ∙ e)
-        (rw (b, g) (block-idle block lengths handles h flowIn (pickReply answer) next lengths' handles' pick-followed tags t)))
+        (rw (b, g) (block-idle block lengths handles h flowIn
+        (pickReply answer) next lengths' handles' pick-followed tags t)))
 
     pub pick-packet : (flow bytes own : ℕ) (tag clock : ServerTicks) (leapt : Bool) (reply' : List ℕ)
         → answer ≡ PickReply.Packet flow bytes own tag leapt clock

@@ -1,5 +1,5 @@
--- What an arrival and a pick leave of a state, on every path: they change no more than the words that are written, and a
--- refused one changes nothing.
+-- What an arrival and a pick leave of a state, on every path: they change no more than the words that are written, and
+-- a refused one changes nothing.
 -- Assumes nothing.
 use mathlib.Core.Path.{_≡_, refl, sym, ap}
 use mathlib.Core.Bool.{Bool, true, false, cond}

@@ -69,7 +69,8 @@ five-words a b c c' l' t x y f tags share largest first waiting h g s l k =
       set-past share (largest ++ (first ++ waiting)) 16 (16 + f / 4) _ x s refl,
       set-past largest (first ++ waiting) 16 (f / 4) _ x l refl,
       set-append-left first waiting (f / 4) x (omega (arith, k)),
-      set-past (set tags f t) (share ++ (largest ++ (set first (f / 4) x ++ waiting))) 64 (16 + (16 + (16 + f / 4))) _ y m refl,
+      set-past (set tags f t) (share ++ (largest ++ (set first (f / 4) x ++ waiting))) 64
+          (16 + (16 + (16 + f / 4))) _ y m refl,
       set-past share (largest ++ (set first (f / 4) x ++ waiting)) 16 (16 + (16 + f / 4)) _ y s refl,
       set-past largest (set first (f / 4) x ++ waiting) 16 (16 + f / 4) _ y l refl,
       set-past (set first (f / 4) x) waiting 16 (f / 4) _ y (length-set first (f / 4) x ∙ k) refl,
@@ -96,7 +97,8 @@ step-words words next f h K =
     ∙ five-words (r .flows + 2 ^ 32 * r .width) (r .clock .0) (r .link .0) (next .clock .0) (next .link .0) t
     (fourAt (next .queues .first) (f / 4)) (fourAt (next .queues .waiting) (f / 4)) f (field64 (r .tags .0))
     (fieldWords (r .queues .share)) (fieldWords (r .queues .largest)) (fieldWords (r .queues .first))
-    (fieldWords (r .queues .waiting)) (K .below) (field-length (r .tags .0)) (words-length _) (words-length _) (words-length _)
+    (fieldWords (r .queues .waiting)) (K .below) (field-length (r .tags .0)) (words-length _) (words-length _)
+    (words-length _)
     ∙ rw (
       K .flows,
       K .width,
@@ -119,6 +121,7 @@ unfolding wordsOf
 step-rested words tags next f h K t =
     let old = set (recordOf words .tags .0) f (tagOf next f) in
     let rest = fieldWords (next .queues .share)
-    ++ (fieldWords (next .queues .largest) ++ (fieldWords (next .queues .first) ++ fieldWords (next .queues .waiting))) in
+    ++ (fieldWords (next .queues .largest) ++ (fieldWords (next .queues .first) ++ fieldWords
+    (next .queues .waiting))) in
     ap (λ l. putMid 3 64 l tags) (step-words words next f h K)
     ∙ rw (drop-at (field64 old) rest 64 (field-length old), t)

@@ -1,7 +1,7 @@
 -- The record as the caller of the library keeps it: a block of 131 words of 64 bits, in the record's own order.
 -- Word 0 is the number of flows with the leap width above it, word 1 the clock, word 2 the link time; words 3 to 66 are
--- the tags of flows 0 to 63; words 67 to 82 are the shares, 83 to 98 the largest packets, 99 to 114 the first places and
--- 115 to 130 the numbers waiting, four flows to a word, 16 bits each, the lowest flow lowest.
+-- the tags of flows 0 to 63; words 67 to 82 are the shares, 83 to 98 the largest packets, 99 to 114 the first places
+-- and 115 to 130 the numbers waiting, four flows to a word, 16 bits each, the lowest flow lowest.
 -- Assumes nothing.
 use mathlib.Core.List.{List, _∷_, _++_}
 use Prim.Native.Nat.{ℕ, zero, suc, _+_, _*_, _/_, _%_, _^_}

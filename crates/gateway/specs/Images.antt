@@ -1,5 +1,5 @@
--- Words and record undo each other: a record whose fields fit their types is told by its 131 words, and any 131 words are
--- those of the record that they tell.
+-- Words and record undo each other: a record whose fields fit their types is told by its 131 words, and any 131 words
+-- are those of the record that they tell.
 -- Assumes nothing.
 use mathlib.Core.Path.{_≡_, refl, sym, ap, _∙_}
 use mathlib.Core.List.{List, _∷_, _++_}
@@ -34,7 +34,8 @@ unfolding fieldIn
 entry-at words f h = listed-at (λ k. quarter (getD words (k / 4) 0) (k % 4)) 0 64 f 0 h ∙ rw zero-add
 
 -- the four entries of word k
-pub entry : (words : List ℕ) (k j : ℕ) → k < 16 → j < 4 → getD (fieldIn words) (4 * k + j) 0 ≡ quarter (getD words k 0) j
+pub entry : (words : List ℕ) (k j : ℕ) → k < 16 → j < 4
+    → getD (fieldIn words) (4 * k + j) 0 ≡ quarter (getD words k 0) j
 entry words k j h l =
     let a : (4 * k + j) / 4 ≡ k = omega arith in
     let b : (4 * k + j) % 4 ≡ j = omega arith in
@@ -47,7 +48,13 @@ words-of-field words h = ext-getD 0 (fieldWords (fieldIn words)) words (words-le
     let z : 4 * k ≡ 4 * k + 0 = omega arith in
     let first = ap (λ n. getD (fieldIn words) n 0) z ∙ entry words k 0 m (omega arith) in
     field-word (fieldIn words) k m
-    ∙ omega (arith, first, entry words k 1 m (omega arith), entry words k 2 m (omega arith), entry words k 3 m (omega arith))
+    ∙ omega (
+      arith,
+      first,
+      entry words k 1 m (omega arith),
+      entry words k 2 m (omega arith),
+      entry words k 3 m (omega arith),
+    )
 
 -- ---- the block
 
@@ -71,7 +78,8 @@ module _ (words : List ℕ) (h : length words ≡ 131) where
       ∷ (part words 3 64 ++ (part words 67 16 ++ (part words 83 16 ++ (part words 99 16 ++ part words 115 16))))
       ≡ words
   parts =
-      let last : part words 115 16 ≡ drop 115 words = take-all 16 (drop 115 words) (rw length-drop (omega (arith, h))) in
+      let last : part words 115 16 ≡ drop 115 words = take-all 16 (drop 115 words)
+      (rw length-drop (omega (arith, h))) in
       ap (λ l. getD words 0 0 ∷ getD words 1 0 ∷ getD words 2 0
       ∷ (part words 3 64 ++ (part words 67 16 ++ (part words 83 16 ++ (part words 99 16 ++ l))))) last
       ∙ rw (
@@ -133,7 +141,8 @@ quarters field h k (suc (suc (suc zero))) l = omega (arith, h (4 * k), h (4 * k 
 quarters field h k (suc (suc (suc (suc j)))) l = absurd (omega arith)
 
 -- a field that fits is told by its words
-field-of-words : (field : List ℕ) → length field ≡ 64 → ((f : ℕ) → getD field f 0 < 2 ^ 16) → fieldIn (fieldWords field) ≡ field
+field-of-words : (field : List ℕ) → length field ≡ 64 → ((f : ℕ) → getD field f 0 < 2 ^ 16)
+    → fieldIn (fieldWords field) ≡ field
 field-of-words field long h = ext-getD 0 (fieldIn (fieldWords field)) field (in-length _ ∙ sym long) λ f l.
     let m : f < 64 = rw in-length at l in
     let whole : 4 * (f / 4) + f % 4 ≡ f = omega arith in

@@ -31,7 +31,8 @@ pub stretch-turn : (ls : List ℕ) (largest i wrong y here : ℕ) → 0 < larges
     → (y + 1) % 2 ^ 16 ≡ getD ls i 0 → here ≡ y - (largest - 1)
     → eqb wrong 0 ≡ allBelow (λ k. within 1 largest (getD ls k 0)) i
     → eqb (bitOr wrong here) 0 ≡ allBelow (λ k. within 1 largest (getD ls k 0)) (i + 1)
-stretch-turn ls largest i wrong y here low high h e o all = fault-turn (λ k. within 1 largest (getD ls k 0)) i wrong here all
+stretch-turn ls largest i wrong y here low high h e o all =
+    fault-turn (λ k. within 1 largest (getD ls k 0)) i wrong here all
     (ap (λ n. eqb n 0) o ∙ not-over y (largest - 1) ∙ one-test (getD ls i 0) y largest e h low high)
 
 -- the same with a fence
@@ -71,7 +72,8 @@ stretch most ls a e n q h l same = ap (allBelow (fits most (part ls a e))) (part
     (λ k u. ap (within 1 most) (part-at ls a e k (omega arith) ∙ ap (λ i. getD ls i 0) (same k u)))
 
 -- a queue in one stretch, and one that passes the flow's last place
-module _ (largest first waiting f : ℕ) (ls : List ℕ) (room : 64 * f + 64 ≤ length ls) (begun : first < 64) (few : waiting ≤ 64) where
+module _ (largest first waiting f : ℕ) (ls : List ℕ) (room : 64 * f + 64 ≤ length ls) (begun : first < 64)
+    (few : waiting ≤ 64) where
   abbrev start : ℕ
   start = 64 * f + first
 
@@ -84,7 +86,8 @@ module _ (largest first waiting f : ℕ) (ls : List ℕ) (room : 64 * f + 64 ≤
   abbrev good : ℕ → Bool
   good k = fits largest ls (at k)
 
-  pub one-stretch : (r : Bool) → end ≤ 64 * f + 64 → r ≡ says largest ls start end → r ≡ lengthsFormed f ls largest first waiting
+  pub one-stretch : (r : Bool) → end ≤ 64 * f + 64 → r ≡ says largest ls start end
+      → r ≡ lengthsFormed f ls largest first waiting
   unfolding lengthsFormed
   one-stretch r h e = e ∙ stretch largest ls start end waiting at refl (omega arith) (λ k u. omega arith)
 
@@ -99,7 +102,8 @@ module _ (largest first waiting f : ℕ) (ls : List ℕ) (room : 64 * f + 64 ≤
       ∙ sym (allBelow-add good i n) ∙ ap (allBelow good) (omega arith)
 
   -- a full queue: all the flow's places, wherever it begins
-  pub full-ring : (r : Bool) → 64 ≤ waiting → r ≡ says largest ls (64 * f) (64 * f + 64) → r ≡ lengthsFormed f ls largest first waiting
+  pub full-ring : (r : Bool) → 64 ≤ waiting → r ≡ says largest ls (64 * f) (64 * f + 64)
+      → r ≡ lengthsFormed f ls largest first waiting
   unfolding lengthsFormed
   full-ring r h e = let all : ℕ → Bool = λ k. fits largest ls (64 * f + k) in
       e ∙ stretch largest ls (64 * f) (64 * f + 64) 64 (λ k. 64 * f + k) refl room (λ k u. refl)
@@ -115,7 +119,8 @@ fence-low j h = eqb-true (getD fencing j 0) 0 (allBelow-at (λ i. eqb (getD fenc
 
 fence-high : (j : ℕ) → j < 8 → getD fencing (8 + j) 0 ≡ 65535
 unfolding fencing allBelow
-fence-high j h = eqb-true (getD fencing (8 + j) 0) 65535 (allBelow-at (λ i. eqb (getD fencing (8 + i) 0) 65535) 8 refl j h)
+fence-high j h =
+    eqb-true (getD fencing (8 + j) 0) 65535 (allBelow-at (λ i. eqb (getD fencing (8 + i) 0) 65535) 8 refl j h)
 
 -- a tested length, and one let through
 fenced-in : (largest x : ℕ) → 0 < largest → largest < 65536 → x < 65536 → fenced largest 0 x ≡ within 1 largest x
@@ -125,11 +130,13 @@ fenced-in largest x l h k = rw or-zero-r (one-test x ((x + 65535) % 65536) large
 fenced-out : (largest x : ℕ) → fenced largest 65535 x ≡ true
 unfolding fenced
 fenced-out largest x =
-    le-leb ((x + 65535) % 65536) (bitOr (largest - 1) 65535) (omega (arith, or-add-and (largest - 1) 65535, and-le-l (largest - 1) 65535))
+    le-leb ((x + 65535) % 65536) (bitOr (largest - 1) 65535)
+    (omega (arith, or-add-and (largest - 1) 65535, and-le-l (largest - 1) 65535))
 
 -- a short queue in a window of eight: the fence lets through what is past its last packet
 pub short-queue : (largest first waiting f : ℕ) (ls fence : List ℕ) (r : Bool)
-    → 64 * f + 64 ≤ length ls → ((k : ℕ) → getD ls k 0 < 65536) → first ≤ 56 → waiting ≤ 8 → 0 < largest → largest < 65536
+    → 64 * f + 64 ≤ length ls → ((k : ℕ) → getD ls k 0 < 65536) → first ≤ 56 → waiting ≤ 8 → 0 < largest
+    → largest < 65536
     → fence ≡ fencing
     → r ≡ allBelow (λ k. fenced largest (getD (part fence (8 - waiting) (8 - waiting + 8)) k 0)
     (getD (part ls (64 * f + first) (64 * f + first + 8)) k 0)) 8
@@ -137,7 +144,8 @@ pub short-queue : (largest first waiting f : ℕ) (ls fence : List ℕ) (r : Boo
 unfolding lengthsFormed
 short-queue largest first waiting f ls fence r room small begun few low high same e =
     e ∙ allBelow-same _ both 8 each ∙ ap (allBelow both) split ∙ allBelow-add both waiting (8 - waiting)
-    ∙ ap₂ _&&_ (allBelow-same both good waiting front) (allBelow-of _ (8 - waiting) back) ∙ and-true (allBelow good waiting)
+    ∙ ap₂ _&&_ (allBelow-same both good waiting front) (allBelow-of _ (8 - waiting) back)
+    ∙ and-true (allBelow good waiting)
   where
     good : ℕ → Bool
     good k = within 1 largest (getD ls (placeOf f first k) 0)
@@ -149,7 +157,8 @@ short-queue largest first waiting f ls fence r room small begun few low high sam
     split = omega arith
 
     each : (k : ℕ) → k < 8
-        → fenced largest (getD (part fence (8 - waiting) (8 - waiting + 8)) k 0) (getD (part ls (64 * f + first) (64 * f + first + 8)) k 0) ≡ both k
+        → fenced largest (getD (part fence (8 - waiting) (8 - waiting + 8)) k 0)
+        (getD (part ls (64 * f + first) (64 * f + first + 8)) k 0) ≡ both k
     each k h = rw same (ap₂ (fenced largest) (part-at fencing (8 - waiting) (8 - waiting + 8) k (omega arith))
         (part-at ls (64 * f + first) (64 * f + first + 8) k (omega arith)))
 

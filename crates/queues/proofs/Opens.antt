@@ -83,7 +83,8 @@ module _ (shares largest : List ℕ) where
   sum-more : (sum f : ℕ) → sum ≡ sharesOf (newQueues shares largest) f → f < 64
       → sum + getD shares f 0 ≡ sharesOf (newQueues shares largest) (f + 1)
   unfolding sharesOf
-  sum-more sum f e h = ap₂ _+_ e (sym (ap (λ (w : Queue). w .share) (opened-at shares largest f h))) ∙ sym (sumBelow-more _ f)
+  sum-more sum f e h =
+      ap₂ _+_ e (sym (ap (λ (w : Queue). w .share) (opened-at shares largest f h))) ∙ sym (sumBelow-more _ f)
 
   pub passed-more : (sum f : ℕ) → Passed shares largest sum f → length shares ≤ 64 → f < length shares
       → not (inShare shares f) ≡ false → not (inLargest largest f) ≡ false
@@ -148,7 +149,8 @@ module _ (list : List ℕ) where
   pub booked-all : (n : ℕ) (entries : List ℕ) → Booked list n entries → length list ≤ 64 → length list ≤ n
       → entries ≡ field64 list
   booked-all n entries b few h = let e : n ≡ length list = omega (arith, b .reached) in
-      b .so-far ∙ ap (λ l. take n (field64 list) ++ l) (sym (ext-getD 0 (drop n (field64 list)) (drop n (replicate 64 0))
+      b .so-far ∙ ap (λ l. take n (field64 list) ++ l)
+      (sym (ext-getD 0 (drop n (field64 list)) (drop n (replicate 64 0))
       (simp (length-drop, field-length))
       (λ k u. let v : k < 64 - n = rw (length-drop, field-length) at u in
       getD-drop n (field64 list) k 0 ∙ after n k e (omega arith)

@@ -16,7 +16,8 @@ use Rattle.cost.specs.Cost.{within, within-of, costOf}
 use Rattle.cost.specs.Charge.{chargeTicks}
 use Rattle.queues.specs.Queue.{bookedTicks}
 use Rattle.queues.specs.Queues.{queuesOf, queueAt, sharesOf, widthOf}
-use Rattle.queues.specs.Form.{booked, placed, ranged, queueFormed, spareQueue, tabled, queuesFormed, queuesSpare, queueSide}
+use Rattle.queues.specs.Form.{booked, placed, ranged, queueFormed, spareQueue, tabled, queuesFormed, queuesSpare}
+use Rattle.queues.specs.Form.{queueSide}
 use Rattle.queues.specs.Laws.{ranged-out}
 use Rattle.queues.specs.Placed.{Kept, Placed, Shared}
 use Rattle.queues.specs.declared.Queues.{Queues}
@@ -65,7 +66,8 @@ module _ (share largest first waiting : List ℕ) where
 
   -- a turn of the test of the flows that do not count
   pub spare-turn : (flows i any : ℕ) → flows ≤ i → eqb any 0 ≡ allBelow (λ f. ltb f flows || spareAt f) i
-      → eqb (bitOr any (bitOr (bitOr (getD share i 0) (getD largest i 0)) (bitOr (getD first i 0) (getD waiting i 0)))) 0
+      → eqb
+      (bitOr any (bitOr (bitOr (getD share i 0) (getD largest i 0)) (bitOr (getD first i 0) (getD waiting i 0)))) 0
       ≡ allBelow (λ f. ltb f flows || spareAt f) (i + 1)
   unfolding spareQueue
   spare-turn flows i any h all = rest-turn flows spareAt i any
@@ -110,15 +112,20 @@ module _ (flows width : ℕ) (q : Queues) (lengths : List ℕ) where
   queued = allBelow (λ f. queueFormed f lengths (queueAt q f)) flows
 
   abbrev sums : Bool
-  sums = leb (sumBelow (λ f. getD (q .share) f 0) flows) 1000 && eqb (mostBelow (ticksAt (q .share) (q .largest)) flows) width
+  sums =
+      leb (sumBelow (λ f. getD (q .share) f 0) flows) 1000
+      && eqb (mostBelow (ticksAt (q .share) (q .largest)) flows) width
 
   -- the whole, in the order of the test
   tested : queueSide flows width q lengths ≡ (within 1 64 flows && ranges && queued && (sums && queuesSpare flows q))
   unfolding tabled queuesFormed ranged sharesOf widthOf
   tested =
-      ap (λ b. tabled flows width q && b && queuesSpare flows q) (sym (both-below (λ f. placed (queueAt q f)) (λ f. queueFormed f lengths (queueAt q f)) flows))
-      ∙ regroup (within 1 64 flows) (allBelow (λ f. booked (queueAt q f)) flows) (allBelow (λ f. placed (queueAt q f)) flows) queued
-      (leb (sumBelow (λ f. getD (q .share) f 0) flows) 1000) (eqb (mostBelow (ticksAt (q .share) (q .largest)) flows) width) (queuesSpare flows q)
+      ap (λ b. tabled flows width q && b && queuesSpare flows q)
+      (sym (both-below (λ f. placed (queueAt q f)) (λ f. queueFormed f lengths (queueAt q f)) flows))
+      ∙ regroup (within 1 64 flows) (allBelow (λ f. booked (queueAt q f)) flows)
+      (allBelow (λ f. placed (queueAt q f)) flows) queued
+      (leb (sumBelow (λ f. getD (q .share) f 0) flows) 1000)
+      (eqb (mostBelow (ticksAt (q .share) (q .largest)) flows) width) (queuesSpare flows q)
       ∙ ap (λ b. within 1 64 flows && b && queued && (sums && queuesSpare flows q))
       (both-below (λ f. booked (queueAt q f)) (λ f. placed (queueAt q f)) flows)
 

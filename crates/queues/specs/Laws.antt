@@ -103,7 +103,8 @@ pub record Joinable (flows f n largest waiting : ℕ) : Type 0 where
   pub room : waiting < 64
 
 -- what holds of a packet that is taken, and of one that is refused with 7, 8 or 9, holds of the reply
-pub join-cases : (flows f n largest waiting : ℕ) (P : Reply → Type 0) → (Joinable flows f n largest waiting → P (done []))
+pub join-cases : (flows f n largest waiting : ℕ) (P : Reply → Type 0)
+    → (Joinable flows f n largest waiting → P (done []))
     → ((number : ℕ) → 7 ≤ number → number ≤ 9 → P (refused number 0)) → P (joinReply flows f n largest waiting)
 unfolding joinReply
 join-cases flows f n largest waiting P takes refuses =

@@ -1,6 +1,6 @@
 -- What people must believe of the queue's side, to be read beside document 01.
--- `Queue`: one flow's bookings and ring of places. `Queues`: those of all flows, got and put. `Form`: when they are well
--- formed. `Places`: the memories, joining and leaving. `Opening`: a table as it opens.
+-- `Queue`: one flow's bookings and ring of places. `Queues`: those of all flows, got and put. `Form`: when they are
+-- well formed. `Places`: the memories, joining and leaving. `Opening`: a table as it opens.
 -- `Laws`: what callers draw from these. `Openable`: what an opening that is not refused was handed. `Placed`, `Fence`:
 -- what the code's own steps need.
 pub mod Queue

@@ -31,7 +31,8 @@ pub record InRange (shares largest : List ℕ) (f : ℕ) : Type 0 where
   pub largest-low : 1 ≤ getD largest f 0
   pub largest-high : getD largest f 0 ≤ 1500
 
--- two memories of 4,096 places, and lists of one length, 1 to 64, with every number in range and shares of at most 1,000
+-- two memories of 4,096 places, and lists of one length, 1 to 64, with every number in range and shares of at most
+-- 1,000
 pub record Openable (shares largest lengths handles : List ℕ) : Type 0 where
   pub lengths-lent : length lengths ≡ 4096
   pub handles-lent : length handles ≡ 4096
@@ -120,11 +121,13 @@ module _ (shares largest lengths handles : List ℕ) (o : Openable shares larges
     unfolding newQueues
     opened-shares =
         record {
-          each = λ f h. rw (n, field-at shares f (omega (arith, o .few))) (o .each f h .share-low, o .each f h .share-high);
+          each = λ f h. rw (n, field-at shares f (omega (arith, o .few)))
+              (o .each f h .share-low, o .each f h .share-high);
         }
 
     -- the leap width fits 32 bits
-    pub width-fits : mostBelow (λ f. bookedTicks (getD (q .share) f 0) (getD (q .largest) f 0)) (length shares) ≤ 1080000000
+    pub width-fits : mostBelow (λ f. bookedTicks (getD (q .share) f 0) (getD (q .largest) f 0))
+        (length shares) ≤ 1080000000
     unfolding newQueues
     width-fits = mostBelow-le _ (length shares) 1080000000 λ f h.
         mul-le-mul {n₂ = 1500} (rw (n, field-at largest f (omega (arith, o .few))) (o .each f h .largest-high))

@@ -115,8 +115,8 @@ pub fn are_formed<'a>(
     lengths: &[u16],
 ) -> bool
     requires { ⌜ (length (now lengths) ≡ 4096) × (now table ≡ costs) ⌝ }
-    ensures { λ r. ⌜ r ≡ queueSide flows width (queuesOf (now (share .entry)) (now (largest .entry)) (now (first .entry))
-        (now (waiting .entry))) (now (lengths .entry)) ⌝ }
+    ensures { λ r. ⌜ r ≡ queueSide flows width (queuesOf (now (share .entry)) (now (largest .entry))
+        (now (first .entry)) (now (waiting .entry))) (now (lengths .entry)) ⌝ }
 {
     if flows < 1 {
         return false;

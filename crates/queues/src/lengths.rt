@@ -38,7 +38,8 @@ pub(crate) fn over(x: u16, most: u16) -> u16
 // Every length of a stretch of the memory is from 1 to `largest`.
 fn stretch_ok(stretch: &[u16], largest: u16) -> bool
     requires { ⌜ 0 < largest ⌝ }
-    ensures { λ r. ⌜ r ≡ allBelow (λ k. within 1 largest (getD (now (stretch .entry)) k 0)) (length (now (stretch .entry))) ⌝ }
+    ensures { λ r. ⌜ r ≡ allBelow (λ k. within 1 largest (getD (now (stretch .entry)) k 0))
+        (length (now (stretch .entry))) ⌝ }
 {
     let most = largest - 1;
     let mut wrong: u16 = 0;
@@ -54,7 +55,8 @@ fn stretch_ok(stretch: &[u16], largest: u16) -> bool
 fn eight_ok(window: &[u16], fence: &[u16], largest: u16) -> bool
     requires { ⌜ 0 < largest ⌝ }
     requires { ⌜ (length (now window) ≡ 8) × (length (now fence) ≡ 8) ⌝ }
-    ensures { λ r. ⌜ r ≡ allBelow (λ k. fenced largest (getD (now (fence .entry)) k 0) (getD (now (window .entry)) k 0)) 8 ⌝ }
+    ensures { λ r. ⌜ r ≡ allBelow (λ k. fenced largest (getD (now (fence .entry)) k 0) (getD (now (window .entry)) k 0))
+        8 ⌝ }
 {
     let most = largest - 1;
     let mut wrong: u16 = 0;

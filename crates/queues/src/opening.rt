@@ -81,7 +81,8 @@ pub fn widest<'a>(
     largest: &'a [u16; 64],
 ) -> u64
     requires { ⌜ (flows ≤ 64) × (now table ≡ costs) × Shared (now share) flows ⌝ }
-    ensures { λ r. ⌜ r ≡ mostBelow (λ f. bookedTicks (getD (now (share .entry)) f 0) (getD (now (largest .entry)) f 0)) flows ⌝ }
+    ensures { λ r. ⌜ r ≡ mostBelow (λ f. bookedTicks (getD (now (share .entry)) f 0) (getD (now (largest .entry)) f 0))
+        flows ⌝ }
 {
     let end = flows as usize;
     let mut width: u64 = 0;

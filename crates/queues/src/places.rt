@@ -34,7 +34,8 @@ pub fn field(fields: &[u16; 64], flow: u32) -> u16
 // One packet more waits in the flow. Gives the number that waited before.
 pub fn join(waiting: &mut [u16; 64], flow: u32) -> u16
     requires { ⌜ (flow < 64) × (getD (now waiting) flow 0 < 64) ⌝ }
-    ensures { λ r. ⌜ (r ≡ getD (now (waiting .entry)) flow 0) × (now (waiting .exit) ≡ set (now (waiting .entry)) flow (r + 1)) ⌝ }
+    ensures { λ r. ⌜ (r ≡ getD (now (waiting .entry)) flow 0)
+        × (now (waiting .exit) ≡ set (now (waiting .entry)) flow (r + 1)) ⌝ }
 {
     let f = flow as usize;
     let before = waiting[f];
@@ -45,7 +46,8 @@ pub fn join(waiting: &mut [u16; 64], flow: u32) -> u16
 // One packet fewer waits in the flow. Gives the number that waited before.
 pub fn leave(waiting: &mut [u16; 64], flow: u32) -> u16
     requires { ⌜ (flow < 64) × (0 < getD (now waiting) flow 0) ⌝ }
-    ensures { λ r. ⌜ (r ≡ getD (now (waiting .entry)) flow 0) × (now (waiting .exit) ≡ set (now (waiting .entry)) flow (r - 1)) ⌝ }
+    ensures { λ r. ⌜ (r ≡ getD (now (waiting .entry)) flow 0)
+        × (now (waiting .exit) ≡ set (now (waiting .entry)) flow (r - 1)) ⌝ }
 {
     let f = flow as usize;
     let before = waiting[f];
@@ -56,7 +58,8 @@ pub fn leave(waiting: &mut [u16; 64], flow: u32) -> u16
 // The flow's first place goes on by one, 63 to 0. Gives the place that was first.
 pub fn go_on(first: &mut [u16; 64], flow: u32) -> u16
     requires { ⌜ (flow < 64) × (getD (now first) flow 0 < 64) ⌝ }
-    ensures { λ r. ⌜ (r ≡ getD (now (first .entry)) flow 0) × (now (first .exit) ≡ set (now (first .entry)) flow ((r + 1) % 64)) ⌝ }
+    ensures { λ r. ⌜ (r ≡ getD (now (first .entry)) flow 0)
+        × (now (first .exit) ≡ set (now (first .entry)) flow ((r + 1) % 64)) ⌝ }
 {
     let f = flow as usize;
     let before = first[f];
@@ -73,7 +76,8 @@ pub fn arrival_reply<'a>(
     waiting: &'a [u16; 64],
 ) -> ArrivalReply
     requires { ⌜ flows ≤ 64 ⌝ }
-    ensures { λ r. ⌜ arrivalReply r ≡ joinReply flows flow bytes (getD (now (largest .entry)) flow 0) (getD (now (waiting .entry)) flow 0) ⌝ }
+    ensures { λ r. ⌜ arrivalReply r ≡ joinReply flows flow bytes (getD (now (largest .entry)) flow 0)
+        (getD (now (waiting .entry)) flow 0) ⌝ }
 {
     if flows <= flow {
         return ArrivalReply::Refused(Refusal::NoFlow);

@@ -5,7 +5,8 @@ use mathlib.Core.Bool.{Bool, cond}
 use mathlib.Core.List.{List, [], _∷_}
 use Prim.Native.Nat.{ℕ}
 use Rattle.reply.specs.declared.Refusal.{Refusal}
-use Rattle.reply.specs.declared.Refusal.the-variants.{Memory, Form, Lists, Share, Largest, Sum, NoFlow, Length, Full, Clock}
+use Rattle.reply.specs.declared.Refusal.the-variants.{Memory, Form, Lists, Share, Largest, Sum}
+use Rattle.reply.specs.declared.Refusal.the-variants.{NoFlow, Length, Full, Clock}
 use Rattle.reply.specs.declared.OpeningReply.{OpeningReply}
 use Rattle.reply.specs.declared.ArrivalReply.{ArrivalReply}
 

@@ -47,8 +47,10 @@ module _ (shares largest : List ℕ) where
   unfolding openingRule
   accepted-out lengths handles e =
       let reply = listsReply shares largest lengths handles in
-      let all : reply ≡ done [] = sym (opened-reply reply shares largest lengths handles) ∙ e in
-      (openable shares largest lengths handles all, ap (λ given. openedBy given shares largest lengths handles .state) all)
+      let all : reply ≡ done [] = sym (opened-reply reply shares largest lengths handles) ∙ e in (
+        openable shares largest lengths handles all,
+        ap (λ given. openedBy given shares largest lengths handles .state) all,
+      )
 
   -- flow f as it opens
   opened-flow : (f : ℕ) → f < 64 → flowAt new f ≡ flowOf 0 (queueOf (getD shares f 0) (getD largest f 0) 0 0)

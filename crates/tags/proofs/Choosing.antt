@@ -47,11 +47,13 @@ lead-keyed tag waiting n lead e w = (rw (← e) at (leads tag waiting n)) .above
 abbrev pub leadAs : ℕ → ℕ → Lead
 leadAs flow least = record { waits = ltb flow 64; flow = flow; tag = record { 0 = least } }
 
-keyed-key : (flow least : ℕ) (tag waiting : ℕ → ℕ) (n : ℕ) → leadAs flow least ≡ leadBy tag waiting n → ltb flow 64 ≡ false
+keyed-key : (flow least : ℕ) (tag waiting : ℕ → ℕ) (n : ℕ) → leadAs flow least ≡ leadBy tag waiting n
+    → ltb flow 64 ≡ false
     → least ≡ noTag
 keyed-key flow least tag waiting n e w = lead-keyed tag waiting n (leadAs flow least) e w
 
-module _ (tag waiting : ℕ → ℕ) (n flow least key : ℕ) (led : leadAs flow least ≡ leadBy tag waiting n) (here : key ≡ keyOf (tag n) (waiting n))
+module _ (tag waiting : ℕ → ℕ) (n flow least key : ℕ) (led : leadAs flow least ≡ leadBy tag waiting n)
+    (here : key ≡ keyOf (tag n) (waiting n))
     (low : tag n < noTag) (few : n < 64) (high : least ≤ noTag) where
   pub lead-moves : key < least → leadAs n key ≡ leadBy tag waiting (n + 1)
   lead-moves h = lead-more tag waiting n (leadAs flow least) (leadAs n key) (go (eqb (waiting n) 0) refl) led
@@ -59,12 +61,16 @@ module _ (tag waiting : ℕ → ℕ) (n flow least key : ℕ) (led : leadAs flow
       go : (b : Bool) → eqb (waiting n) 0 ≡ b → leadAs n key ≡ ahead (leadAs flow least) (tag n) (waiting n) n
       go true z = let k : key ≡ noTag = rw z at here in absurd (omega arith)
       go false z = let k : key ≡ tag n = rw z at here in
-          rw (lt-ltb n 64 few, k) (moves (leadAs flow least) (tag n) (waiting n) n (keyed-key flow least tag waiting n led) (eqb-false (waiting n) 0 z) (omega arith))
+          rw (lt-ltb n 64 few, k) (moves (leadAs flow least) (tag n) (waiting n) n
+          (keyed-key flow least tag waiting n led) (eqb-false (waiting n) 0 z) (omega arith))
 
   pub lead-stays : least ≤ key → leadAs flow least ≡ leadBy tag waiting (n + 1)
   lead-stays h = lead-more tag waiting n (leadAs flow least) (leadAs flow least) (go (eqb (waiting n) 0) refl) led
     where
       go : (b : Bool) → eqb (waiting n) 0 ≡ b → leadAs flow least ≡ ahead (leadAs flow least) (tag n) (waiting n) n
-      go true z = stays-empty (leadAs flow least) (tag n) (waiting n) n (keyed-key flow least tag waiting n led) (eqb-true (waiting n) 0 z)
+      go true z =
+          stays-empty (leadAs flow least) (tag n) (waiting n) n (keyed-key flow least tag waiting n led)
+          (eqb-true (waiting n) 0 z)
       go false z = let k : key ≡ tag n = rw z at here in
-          stays (leadAs flow least) (tag n) (waiting n) n (keyed-key flow least tag waiting n led) low (eqb-false (waiting n) 0 z) (omega arith)
+          stays (leadAs flow least) (tag n) (waiting n) n (keyed-key flow least tag waiting n led) low
+          (eqb-false (waiting n) 0 z) (omega arith)

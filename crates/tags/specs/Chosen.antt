@@ -106,7 +106,8 @@ module _ (tag waiting : ℕ → ℕ) (n : ℕ) (lead : Lead) (L : Leads tag wait
           → Leads tag waiting (suc n) (cond a lead (cond b (cond c lead (leadAt n (tag n))) (leadAt n (tag n))))
       go true p b q c t = leads-stay λ w. absurd (omega (arith, eqb-true (waiting n) 0 p))
       go false p true q true t = leads-stay λ w. (q, leb-true (lead .tag .0) (tag n) t)
-      go false p true q false t = leads-move (omega (arith, eqb-false (waiting n) 0 p)) λ _. leb-false (lead .tag .0) (tag n) t
+      go false p true q false t =
+          leads-move (omega (arith, eqb-false (waiting n) 0 p)) λ _. leb-false (lead .tag .0) (tag n) t
       go false p false q c t = leads-move (omega (arith, eqb-false (waiting n) 0 p)) λ e. true-false (sym e ∙ q)
 
 pub leads : (tag waiting : ℕ → ℕ) (n : ℕ) → Leads tag waiting n (leadBy tag waiting n)

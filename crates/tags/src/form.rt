@@ -27,7 +27,8 @@ fn tags_ok<'a>(
     waiting: &'a [u16; 64],
 ) -> bool
     requires { ⌜ (flows ≤ 64) × (clock < 2 ^ 63) ⌝ }
-    ensures { λ r. ⌜ r ≡ tagsFormed flows width clock (λ f. getD (now (tags .entry)) f 0) (λ f. getD (now (waiting .entry)) f 0) ⌝ }
+    ensures { λ r. ⌜ r ≡ tagsFormed flows width clock (λ f. getD (now (tags .entry)) f 0)
+        (λ f. getD (now (waiting .entry)) f 0) ⌝ }
 {
     let end = flows as usize;
     let mut at: usize = 0;
@@ -63,7 +64,8 @@ pub fn are_formed<'a>(
     waiting: &'a [u16; 64],
 ) -> bool
     requires { ⌜ (flows ≤ 64) × (clock .0 < 2 ^ 63) ⌝ }
-    ensures { λ r. ⌜ r ≡ (tagsFormed flows width (clock .0) (λ f. getD (now (tags .entry)) f 0) (λ f. getD (now (waiting .entry)) f 0)
+    ensures { λ r. ⌜ r ≡ (tagsFormed flows width (clock .0) (λ f. getD (now (tags .entry)) f 0)
+        (λ f. getD (now (waiting .entry)) f 0)
         && tagsSpare flows (λ f. getD (now (tags .entry)) f 0)) ⌝ }
 {
     tags_ok(flows, width, clock.0, tags, waiting) & rest_ok(flows, tags)

@@ -34,7 +34,8 @@ module _ (shares largest lengths handles : List ℕ) (reply : OpeningReply)
 
     -- and what is handed back
     pub opening-done : (q : Queues) (start : Record) (width : ℕ) (ls hs : List ℕ) → q ≡ newQueues shares largest
-        → start ≡ blank → width ≡ mostBelow (λ f. bookedTicks (getD (q .share) f 0) (getD (q .largest) f 0)) (length shares)
+        → start ≡ blank
+        → width ≡ mostBelow (λ f. bookedTicks (getD (q .share) f 0) (getD (q .largest) f 0)) (length shares)
         → ls ≡ replicate (length lengths) 0 → hs ≡ replicate (length handles) 0
         → outcome (openingReply reply) (record {
           flows = length shares;

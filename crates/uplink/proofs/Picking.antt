@@ -44,7 +44,8 @@ goneBy freed clock link sent =
     }
 
 -- the packet that left, and what it took of the link
-pub advanced : (f first sent : ℕ) (clock : ServerTicks) (link : LinkTicks) (lengths handles ls hs : List ℕ) (freed : Freed)
+pub advanced : (f first sent : ℕ) (clock : ServerTicks) (link : LinkTicks) (lengths handles ls hs : List ℕ)
+    (freed : Freed)
     → (freed ≡ freedOf f first lengths handles)
     × (ls ≡ set lengths (placeOf f first 0) 0)
     × (hs ≡ set handles (placeOf f first 0) 0)
@@ -155,14 +156,16 @@ module _ (r : Record) (lengths handles : List ℕ) (a : Bool) (l : a ≡ lent le
             (fewer : waits ≡ set (r .queues .waiting) (lead .flow) (waiting - 1)) where
           abbrev nextRecord : List ℕ → Record
           nextRecord tags =
-              with r (gone .clock) (gone .link) (tagsOf tags) (queuesOf (r .queues .share) (r .queues .largest) firsts waits)
+              with r (gone .clock) (gone .link) (tagsOf tags)
+              (queuesOf (r .queues .share) (r .queues .largest) firsts waits)
 
           -- another packet comes to the front, and the flow gets its tag
           pub picked-more : (share cost : ℕ) (next : ServerTicks) (tags : List ℕ) → 1 < waiting
               → share ≡ flowAt r (lead .flow) .queue .share → cost ≡ costOf share
               → next ≡ ticks (frontTag (lead .tag .0) (gone .clock .0) cost (gone .behind))
               → tags ≡ set (r .tags .0) (lead .flow) (next .0)
-              → outcome (packet (lead .flow) (gone .length) (gone .handle) (lead .tag .0) (leap .leapt) (gone .clock .0))
+              → outcome
+              (packet (lead .flow) (gone .length) (gone .handle) (lead .tag .0) (leap .leapt) (gone .clock .0))
               (nextRecord tags) ls hs
               ≡ pickRule (state r lengths handles)
           unfolding serveRule servedFlow put leapRule
@@ -180,13 +183,15 @@ module _ (r : Record) (lengths handles : List ℕ) (a : Bool) (l : a ≡ lent le
             a-first,
             a-waiting,
             ← own,
-            put-left (r .queues) (lead .flow) ((flowAt r (lead .flow) .queue .first + 1) % 64) (waitingOf r (lead .flow) - 1),
+            put-left (r .queues) (lead .flow) ((flowAt r (lead .flow) .queue .first + 1) % 64)
+                (waitingOf r (lead .flow) - 1),
             lt-ltb 1 (waitingOf r (lead .flow)) (omega (arith, h, a-waiting)),
           ))
 
           -- it was the last, and the tag stays
           pub picked-last : waiting ≤ 1
-              → outcome (packet (lead .flow) (gone .length) (gone .handle) (lead .tag .0) (leap .leapt) (gone .clock .0))
+              → outcome
+              (packet (lead .flow) (gone .length) (gone .handle) (lead .tag .0) (leap .leapt) (gone .clock .0))
               (nextRecord (r .tags .0)) ls hs
               ≡ pickRule (state r lengths handles)
           unfolding serveRule servedFlow put leapRule
@@ -200,7 +205,8 @@ module _ (r : Record) (lengths handles : List ℕ) (a : Bool) (l : a ≡ lent le
             a-first,
             a-waiting,
             ← own,
-            put-left (r .queues) (lead .flow) ((flowAt r (lead .flow) .queue .first + 1) % 64) (waitingOf r (lead .flow) - 1),
+            put-left (r .queues) (lead .flow) ((flowAt r (lead .flow) .queue .first + 1) % 64)
+                (waitingOf r (lead .flow) - 1),
             le-ltb 1 (waitingOf r (lead .flow)) (omega (arith, h, a-waiting)),
             set-getD (r .tags .0) (lead .flow) 0,
           ))

@@ -45,7 +45,8 @@ module _ (r : Record) (lengths : List ℕ) where
   rest-both : restSpare r ≡ (tagsSpare (r .flows) (tagOf r) && queuesSpare (r .flows) (r .queues))
   unfolding restSpare tagsSpare queuesSpare spareFlow
   rest-both = sym
-      (both-below (λ f. ltb f (r .flows) || eqb (tagOf r f) 0) (λ f. ltb f (r .flows) || spareQueue (flowAt r f .queue)) 64
+      (both-below (λ f. ltb f (r .flows) || eqb (tagOf r f) 0)
+      (λ f. ltb f (r .flows) || spareQueue (flowAt r f .queue)) 64
       ∙ allBelow-same _ _ 64 (λ f h. or-both (ltb f (r .flows)) (eqb (tagOf r f) 0) (spareQueue (flowAt r f .queue))))
 
   tested : formed r lengths ≡ (clocksFormed r && queueTest && tagTest)

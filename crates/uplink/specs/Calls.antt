@@ -41,7 +41,8 @@ afterCall s pick = pickRule s
 -- a theorem that is computed says `unfolding everyRule`, which opens every rule that the three calls are made of
 unfoldable pub everyRule : Unit {0}
 unfolding allBelow sumBelow mostBelow listed costOf putQueue sharesOf widthOf ranged lengthsFormed spareQueue tabled
-    queuesFormed queuesSpare joinReply field64 newQueues faultFrom tableReply listsReply tagFormed tagsFormed ahead leadBy
+    queuesFormed queuesSpare joinReply field64 newQueues faultFrom tableReply listsReply tagFormed tagsFormed ahead
+    leadBy
     spareFlow joinedFlow servedFlow put clocksFormed restSpare formed checked newRecord openingRule storeRule joinRule
     serveRule idleRule chooseRule
 everyRule = tt

@@ -99,7 +99,8 @@ width-most r lengths F =
       arith,
       F .width,
       mostBelow-le _ (r .flows) 1080000000 λ f h.
-          mul-le-mul (ranged-out (flowAt r f .queue) (F .each f h .range) .largest-high) (cost-most (flowAt r f .queue .share)),
+          mul-le-mul (ranged-out (flowAt r f .queue) (F .each f h .range) .largest-high)
+          (cost-most (flowAt r f .queue .share)),
     )
 
 -- no tag of a well-formed record is near the end of 64 bits

@@ -1,8 +1,8 @@
 -- What people must believe of the scheduler, to be read beside document 01.
 -- `Flow`: one flow, its tag and its queue. `Record`: the record's words, a flow got and a flow put. `PickReply`: the
 -- paper's values for a pick's answer. `State`: what a call is given and what it gives back.
--- `Form`: when a record is well formed. `Opening`, `Arrival`, `Pick`: the rules of the three calls. `Calls`: the three as
--- one. `Formed`: what callers draw from the form.
+-- `Form`: when a record is well formed. `Opening`, `Arrival`, `Pick`: the rules of the three calls. `Calls`: the three
+-- as one. `Formed`: what callers draw from the form.
 pub mod Flow
 pub mod Record
 pub mod PickReply

@@ -1,5 +1,5 @@
--- The record's words, and the only file of this crate that knows how the record is laid out: a flow got, a flow put, and
--- the laws of getting and putting. The rules, the form and the theorems speak of `flowAt` and `put`.
+-- The record's words, and the only file of this crate that knows how the record is laid out: a flow got, a flow put,
+-- and the laws of getting and putting. The rules, the form and the theorems speak of `flowAt` and `put`.
 -- Document 01, "The record".
 -- Assumes nothing.
 use mathlib.Core.Path.{_≡_, _∙_}

@@ -20,7 +20,8 @@ element-copy-out-result c = search needs
 returns : tie.Need-returns
 returns c =
     let known = c .before .pre in
-    ap (λ t. getD t (c .before .args .share - 1) 0) (known .2) ∙ cost-found (c .before .args .share) (known .0) (known .1)
+    ap (λ t. getD t (c .before .args .share - 1) 0) (known .2)
+    ∙ cost-found (c .before .args .share) (known .0) (known .1)
 
 pub cost-at-spec : {M : Type 1} → statement M
 cost-at-spec = tie.close (tie.spec sub-at mul-result element-copy-out-result returns)

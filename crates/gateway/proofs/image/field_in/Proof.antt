@@ -1,5 +1,5 @@
--- `gateway::image::field_in` meets its contract. The loop's invariant: the entries of the words before k are read. The measure
--- is what is left of the 16.
+-- `gateway::image::field_in` meets its contract. The loop's invariant: the entries of the words before k are read. The
+-- measure is what is left of the 16.
 -- Assumes nothing.
 use Prim.Native.Nat.{_≤_, _-_, _*_}
 use native.Mathlib.Omega.{arith}
@@ -92,8 +92,11 @@ loop-less c = search needs
 
 loop-again : tie.Need-loop-again Inv-loop μ-loop
 loop-again c =
-    let turn = c .before .before in
-    (omega arith, entries-more (turn .before .args .words .now) (turn .loop .k) (turn .loop .field) (omega arith) (turn .loop .inv .1))
+    let turn = c .before .before in (
+      omega arith,
+      entries-more (turn .before .args .words .now) (turn .loop .k) (turn .loop .field) (omega arith)
+          (turn .loop .inv .1),
+    )
 
 returns : tie.Need-returns Inv-loop μ-loop
 returns c =

@@ -109,7 +109,9 @@ returns c =
     let second = third .before .before .before .before in
     let first = second .before .before .before .before in
     let tagged = first .before .before .before .before in
-    record-read (tagged .before .before .before .before .before .before .before .before .before .before .before .before .args .words .now) _ _ _ _ _ (tagged .set-tags .ensures ∙ tagged .before .tags-in .ensures)
+    let start = tagged .before .before .before .before .before .before .before .before .before .before .before .before in
+    record-read (start .args .words .now) _ _ _ _ _
+    (tagged .set-tags .ensures ∙ tagged .before .tags-in .ensures)
     (first .set-field .ensures ∙ first .before .field-in .ensures)
     (second .set-field2 .ensures ∙ second .before .field-in2 .ensures)
     (third .set-field3 .ensures ∙ third .before .field-in3 .ensures)

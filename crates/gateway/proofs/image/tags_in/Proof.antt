@@ -1,5 +1,5 @@
--- `gateway::image::tags_in` meets its contract. The loop's invariant: the tags before k are the words'. The measure is what
--- is left of the 64.
+-- `gateway::image::tags_in` meets its contract. The loop's invariant: the tags before k are the words'. The measure is
+-- what is left of the 64.
 -- Assumes nothing.
 use Prim.Native.Nat.{_≤_, _-_}
 use native.Mathlib.Omega.{arith}
@@ -39,8 +39,11 @@ loop-less c = search needs
 loop-again : tie.Need-loop-again Inv-loop μ-loop
 loop-again c =
     let turn = c .before .before in
-    let words = turn .before .args .words .now in
-    (omega arith, copied-more words (replicate 64 0) (turn .before .pre) _ _ 0 (omega (arith, turn .before .pre)) (turn .loop .inv .1))
+    let words = turn .before .args .words .now in (
+      omega arith,
+      copied-more words (replicate 64 0) (turn .before .pre) _ _ 0 (omega (arith, turn .before .pre))
+          (turn .loop .inv .1),
+    )
 
 returns : tie.Need-returns Inv-loop μ-loop
 returns c =

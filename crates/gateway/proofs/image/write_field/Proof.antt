@@ -1,5 +1,5 @@
--- `gateway::image::write_field` meets its contract. The loop's invariant: the words before k are written. The measure is what
--- is left of the 16.
+-- `gateway::image::write_field` meets its contract. The loop's invariant: the words before k are written. The measure
+-- is what is left of the 16.
 -- Assumes nothing.
 use mathlib.Core.Path.{_≡_, sym, _∙_}
 use Prim.Native.Nat.{_≤_, _-_}
@@ -56,7 +56,8 @@ returns c =
     let known = c .before .loop .inv in
     let start = c .before .before .before in
     let long = words-length (start .args .field .now) in
-    copied-all _ (start .args .words .now) (long ∙ sym (start .pre)) _ _ (omega (arith, long)) (omega (arith, long)) (known .2)
+    copied-all _ (start .args .words .now) (long ∙ sym (start .pre)) _ _ (omega (arith, long)) (omega (arith, long))
+    (known .2)
 
 pub write-field-spec : {M : Type 1} → statement M
 write-field-spec =

@@ -3,7 +3,8 @@
 use native.Mathlib.Omega.{arith}
 use lib.ListN.{length-set}
 use borrow.Author.Needs.{needs}
-use Rattle.gateway.proofs.Blocks.{filled-length, filled-tags, filled-share, filled-largest, filled-first, filled-all, record-written}
+use Rattle.gateway.proofs.Blocks.{filled-length, filled-tags, filled-share, filled-largest, filled-first}
+use Rattle.gateway.proofs.Blocks.{filled-all, record-written}
 use Rattle.gateway.proofs.image.write_record.Statement.{statement}
 use Rattle.gateway.proofs.image.write_record.Tie as tie
 
@@ -50,7 +51,12 @@ part-write-field-end : tie.Need-part-write-field-end
 part-write-field-end c =
     let tagged = c .before .before .before .before in
     let start = tagged .before .before .before .before .before in
-    omega (arith, start .pre, filled-length _ _ _ _ (filled-tags (start .args .words .now) (start .pre) (start .args .t1) _ (tagged .write-tags .ensures)))
+    omega (
+      arith,
+      start .pre,
+      filled-length _ _ _ _
+          (filled-tags (start .args .words .now) (start .pre) (start .args .t1) _ (tagged .write-tags .ensures)),
+    )
 
 write-field-requires : tie.Need-write-field-requires
 write-field-requires c κs = search needs

@@ -23,7 +23,8 @@ mul-words : tie.Need-mul-words
 mul-words c = search needs
 
 slice-write-words-3 : tie.Need-slice-write-words-3
-slice-write-words-3 c = let asked = c .before .before .before .before .pre in simp length-set (omega (arith, asked .0, asked .1))
+slice-write-words-3 c =
+    let asked = c .before .before .before .before .pre in simp length-set (omega (arith, asked .0, asked .1))
 
 word-at-requires : tie.Need-word-at-requires
 word-at-requires c κs = search needs
@@ -35,7 +36,9 @@ mul-words-2 : tie.Need-mul-words-2
 mul-words-2 c = search needs
 
 slice-write-words-4 : tie.Need-slice-write-words-4
-slice-write-words-4 c = let asked = c .before .before .before .before .before .before .before .pre in simp length-set (omega (arith, asked .0, asked .1))
+slice-write-words-4 c =
+    let asked = c .before .before .before .before .before .before .before .pre in
+    simp length-set (omega (arith, asked .0, asked .1))
 
 word-at-requires-2 : tie.Need-word-at-requires-2
 word-at-requires-2 c κs = search needs
@@ -47,7 +50,9 @@ mul-words-3 : tie.Need-mul-words-3
 mul-words-3 c = search needs
 
 slice-write-words-5 : tie.Need-slice-write-words-5
-slice-write-words-5 c = let asked = c .before .before .before .before .before .before .before .before .before .before .pre in simp length-set (omega (arith, asked .0, asked .1))
+slice-write-words-5 c =
+    let asked = c .before .before .before .before .before .before .before .before .before .before .pre in
+    simp length-set (omega (arith, asked .0, asked .1))
 
 same-length : tie.Need-same-length
 same-length c = search needs

@@ -1,5 +1,5 @@
--- `gateway::image::write_tags` meets its contract. The loop's invariant: the words before k are the tags. The measure is what
--- is left of the 64.
+-- `gateway::image::write_tags` meets its contract. The loop's invariant: the words before k are the tags. The measure
+-- is what is left of the 64.
 -- Assumes nothing.
 use mathlib.Core.Path.{_≡_, sym, _∙_}
 use Prim.Native.Nat.{_≤_, _-_}
@@ -46,7 +46,8 @@ loop-again c =
     let tags = start .args .tags .now in (
       omega arith,
       length-set (turn .loop .words) _ _ ∙ turn .loop .inv .1,
-      rw (← field-at tags (turn .loop .k) (omega arith)) (copied-more (field64 tags) _ (field-length tags ∙ sym (start .pre)) _ _ 0
+      rw (← field-at tags (turn .loop .k) (omega arith))
+          (copied-more (field64 tags) _ (field-length tags ∙ sym (start .pre)) _ _ 0
           (omega (arith, field-length tags)) (turn .loop .inv .2)),
     )
 
@@ -58,7 +59,8 @@ returns c =
     let known = c .before .loop .inv in
     let start = c .before .before in
     let long = field-length (start .args .tags .now) in
-    copied-all _ (start .args .words .now) (long ∙ sym (start .pre)) _ _ (omega (arith, long)) (omega (arith, long)) (known .2)
+    copied-all _ (start .args .words .now) (long ∙ sym (start .pre)) _ _ (omega (arith, long)) (omega (arith, long))
+    (known .2)
 
 pub write-tags-spec : {M : Type 1} → statement M
 write-tags-spec =

@@ -46,7 +46,8 @@ same-length-2 : tie.Need-same-length-2
 same-length-2 c = search needs
 
 returns : tie.Need-returns
-returns c = let called = c .before .before .before .before .before .before .before .before .before .before .before .before in
+returns c =
+    let called = c .before .before .before .before .before .before .before .before .before .before .before .before in
     let start = called .before .before .before .before .before in
     search (needs, opening-stepped, shares-places start, largest-places start)
 

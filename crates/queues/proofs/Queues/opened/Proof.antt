@@ -17,7 +17,8 @@ booked-requires-2 c κs = search needs
 returns : tie.Need-returns
 unfolding newQueues
 returns c =
-    ap₂ (λ share largest. queuesOf share largest (replicate 64 0) (replicate 64 0)) (c .before .booked .ensures) (c .booked2 .ensures)
+    ap₂ (λ share largest. queuesOf share largest (replicate 64 0) (replicate 64 0)) (c .before .booked .ensures)
+    (c .booked2 .ensures)
 
 pub opened-spec : {M : Type 1} → statement M
 opened-spec = tie.close (tie.spec booked-requires booked-requires-2 returns)

@@ -19,9 +19,10 @@ returns-3 c = search (needs, ranges-bad)
 
 lengths-ok-requires : tie.Need-lengths-ok-requires
 lengths-ok-requires c κs =
-    let start = c .before .before .before .before .before in
-    let kept = placed-all (start .args .share .now) _ _ _ _ _ (c .before .ranges-ok .ensures) (c .if3 .left) in
-    ((search needs, start .pre .0), kept .0)
+    let start = c .before .before .before .before .before in (
+      (search needs, start .pre .0),
+      placed-all (start .args .share .now) _ _ _ _ _ (c .before .ranges-ok .ensures) (c .if3 .left) .0,
+    )
 
 returns-4 : tie.Need-returns-4
 returns-4 c = search (needs, queued-bad)
@@ -32,10 +33,12 @@ sum-of-requires c κs = search needs
 widest-requires : tie.Need-widest-requires
 widest-requires c κs =
     let ranged = c .before .before .before in
-    let start = ranged .before .before .before .before .before in
-    let kept = placed-all _ (start .args .largest .now) (start .args .first .now) (start .args .waiting .now) _ _
-    (ranged .before .ranges-ok .ensures) (ranged .if3 .left) in
-    (search needs, start .pre .1, kept .1)
+    let start = ranged .before .before .before .before .before in (
+      search needs,
+      start .pre .1,
+      placed-all _ (start .args .largest .now) (start .args .first .now) (start .args .waiting .now) _ _
+          (ranged .before .ranges-ok .ensures) (ranged .if3 .left) .1,
+    )
 
 rest-ok-requires : tie.Need-rest-ok-requires
 rest-ok-requires c κs = search needs

@@ -1,5 +1,5 @@
--- `queues::form::lengths_ok` meets its contract. The loop's invariant: the queues of the flows before f are well formed; the
--- first that is not ends it. The measure is what is left of the flows.
+-- `queues::form::lengths_ok` meets its contract. The loop's invariant: the queues of the flows before f are well
+-- formed; the first that is not ends it. The measure is what is left of the flows.
 -- Assumes nothing.
 use mathlib.Core.Path.{_≡_, refl, sym, ap, _∙_}
 use mathlib.Core.Bool.{true}
@@ -16,7 +16,8 @@ use Rattle.queues.proofs.form.lengths_ok.Tie as tie
 
 abbrev Inv-loop : tie.InvT-loop
 Inv-loop flows largest first waiting lengths fence f₀ f =
-    (f ≤ flows) × (allBelow (λ g. lengthsFormed g lengths (getD largest g 0) (getD first g 0) (getD waiting g 0)) f ≡ true)
+    (f ≤ flows) × (allBelow (λ g. lengthsFormed g lengths (getD largest g 0) (getD first g 0) (getD waiting g 0)) f
+    ≡ true)
 
 abbrev μ-loop : tie.MeasureT-loop
 μ-loop flows largest first waiting lengths fence f₀ f = flows - f

@@ -1,4 +1,5 @@
--- `queues::form::ranges_ok` meets its contract. The loop's invariant: `wrong` is 0 where the flows looked at are in range.
+-- `queues::form::ranges_ok` meets its contract. The loop's invariant: `wrong` is 0 where the flows looked at are in
+-- range.
 -- The measure is what is left of the flows.
 -- Assumes nothing.
 use mathlib.Core.Path.{_≡_, sym, ap, _∙_}

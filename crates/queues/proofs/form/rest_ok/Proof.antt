@@ -1,4 +1,5 @@
--- `queues::form::rest_ok` meets its contract. The loop's invariant: `any` is 0 where every field of the flows looked at is.
+-- `queues::form::rest_ok` meets its contract. The loop's invariant: `any` is 0 where every field of the flows looked at
+-- is.
 -- The measure is what is left of the 64 flows.
 -- Assumes nothing.
 use mathlib.Core.Path.{_≡_, ap, _∙_}
@@ -60,7 +61,8 @@ loop-again c =
     let args = turn .before .args in (
       omega arith,
       omega arith,
-      spare-turn (args .share .now) (args .largest .now) (args .first .now) (args .waiting .now) (args .flows) (turn .loop .at)
+      spare-turn (args .share .now) (args .largest .now) (args .first .now) (args .waiting .now) (args .flows)
+          (turn .loop .at)
           (turn .loop .any) (turn .loop .inv .0) (turn .loop .inv .2),
     )
 

@@ -1,4 +1,5 @@
--- `queues::form::sum_of` meets its contract. The loop's invariant: `sum` is the sum of the shares looked at, each below 2^16.
+-- `queues::form::sum_of` meets its contract. The loop's invariant: `sum` is the sum of the shares looked at, each below
+-- 2^16.
 -- The measure is what is left of the flows.
 -- Assumes nothing.
 use mathlib.Core.Path.{_≡_, sym, ap, _∙_}
@@ -40,8 +41,11 @@ loop-less c = search needs
 
 loop-again : tie.Need-loop-again Inv-loop μ-loop
 loop-again c =
-    let turn = c .before .before .before in
-    (omega arith, sum-turn (turn .before .args .share .now) _ _ _ (c .wide .ensures .0) (turn .loop .inv .1), omega arith)
+    let turn = c .before .before .before in (
+      omega arith,
+      sum-turn (turn .before .args .share .now) _ _ _ (c .wide .ensures .0) (turn .loop .inv .1),
+      omega arith,
+    )
 
 returns : tie.Need-returns Inv-loop μ-loop
 returns c = c .before .loop .inv .1 ∙ ap (sumBelow _) (omega arith)

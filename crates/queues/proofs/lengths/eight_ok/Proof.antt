@@ -1,5 +1,5 @@
--- `queues::lengths::eight_ok` meets its contract. The loop's invariant: `wrong` is 0 where each length below k passes the
--- fence. The measure is what is left of the eight.
+-- `queues::lengths::eight_ok` meets its contract. The loop's invariant: `wrong` is 0 where each length below k passes
+-- the fence. The measure is what is left of the eight.
 -- Assumes nothing.
 use mathlib.Core.Path.{_≡_, sym, ap, _∙_}
 use Prim.Native.Nat.{_≤_, _-_}

@@ -1,5 +1,5 @@
--- `queues::lengths::long_ok` meets its contract: the places of a ring are all of the flow's, or one stretch of the memory,
--- or two where they pass the flow's last place. What `stretch_ok` says of a stretch, it says of these places.
+-- `queues::lengths::long_ok` meets its contract: the places of a ring are all of the flow's, or one stretch of the
+-- memory, or two where they pass the flow's last place. What `stretch_ok` says of a stretch, it says of these places.
 -- Assumes nothing.
 use borrow.Author.Needs.{needs}
 use Rattle.queues.proofs.Forming.{full-ring, one-stretch, two-stretches}

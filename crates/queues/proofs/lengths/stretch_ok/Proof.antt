@@ -1,5 +1,5 @@
--- `queues::lengths::stretch_ok` meets its contract. The loop's invariant: `wrong` is 0 where each length below k is from 1
--- to `largest`. The measure is what is left of the stretch.
+-- `queues::lengths::stretch_ok` meets its contract. The loop's invariant: `wrong` is 0 where each length below k is
+-- from 1 to `largest`. The measure is what is left of the stretch.
 -- Assumes nothing.
 use mathlib.Core.Path.{_≡_, sym, ap, _∙_}
 use Prim.Native.Nat.{_≤_, _-_}
@@ -51,8 +51,10 @@ loop-again c =
     let turn = sub .before .before .before in
     let args = turn .before .before .args in (
       omega arith,
-      stretch-turn (args .stretch .now) (args .largest) (turn .loop .k) (turn .loop .wrong) (sub .wrapping-sub-u16 .result)
-          (c .over .result) (omega arith) (omega arith) (omega arith) (sub .wrapping-sub-u16 .ensures) (c .over .ensures)
+      stretch-turn (args .stretch .now) (args .largest) (turn .loop .k) (turn .loop .wrong)
+          (sub .wrapping-sub-u16 .result)
+          (c .over .result) (omega arith) (omega arith) (omega arith) (sub .wrapping-sub-u16 .ensures)
+          (c .over .ensures)
           (turn .loop .inv .1),
     )
 

@@ -1,5 +1,5 @@
--- `queues::opening::booked` meets its contract. The loop's invariant: the entries of the flows before f are the list's, the
--- others 0. The measure is what is left of the list.
+-- `queues::opening::booked` meets its contract. The loop's invariant: the entries of the flows before f are the list's,
+-- the others 0. The measure is what is left of the list.
 -- Assumes nothing.
 use Prim.Native.Nat.{_-_}
 use native.Mathlib.Omega.{arith}

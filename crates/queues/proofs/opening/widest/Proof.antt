@@ -11,7 +11,8 @@ use Rattle.queues.proofs.opening.widest.Statement.{statement}
 use Rattle.queues.proofs.opening.widest.Tie as tie
 
 abbrev Inv-loop : tie.InvT-loop
-Inv-loop table flows share largest end width₀ at₀ width at = (at ≤ flows) × (width ≡ mostBelow (ticksAt share largest) at)
+Inv-loop table flows share largest end width₀ at₀ width at =
+    (at ≤ flows) × (width ≡ mostBelow (ticksAt share largest) at)
 
 abbrev μ-loop : tie.MeasureT-loop
 μ-loop table flows share largest end width₀ at₀ width at = flows - at
@@ -56,7 +57,8 @@ loop-again c =
     let turn = charged .before .before .before .before .before in
     let args = turn .before .args in (
       omega arith,
-      width-turn (args .share .now) (args .largest .now) _ _ _ _ _ (turn .loop .inv .1) (charged .before .cost-at .ensures)
+      width-turn (args .share .now) (args .largest .now) _ _ _ _ _ (turn .loop .inv .1)
+          (charged .before .cost-at .ensures)
           (charged .charge-ticks .ensures .0) (c .larger-of .ensures),
     )
 

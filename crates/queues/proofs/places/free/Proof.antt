@@ -1,4 +1,5 @@
--- `queues::places::free` meets its contract: the places that it reads and sets are those of the flow's first two packets.
+-- `queues::places::free` meets its contract: the places that it reads and sets are those of the flow's first two
+-- packets.
 -- Assumes nothing.
 use borrow.Author.Needs.{needs}
 use Rattle.queues.proofs.Placing.{free-front}

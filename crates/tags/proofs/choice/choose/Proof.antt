@@ -1,5 +1,5 @@
--- `tags::choice::choose` meets its contract. The loop's invariant: `flow` leads among the flows looked at, 64 for nobody, and
--- `least` is its tag. The measure is what is left of the flows.
+-- `tags::choice::choose` meets its contract. The loop's invariant: `flow` leads among the flows looked at, 64 for
+-- nobody, and `least` is its tag. The measure is what is left of the flows.
 -- Assumes nothing.
 use mathlib.Core.Path.{_≡_, refl, ap, ap₂, _∙_}
 use mathlib.Core.Logic.{⊎-elim}
@@ -59,9 +59,11 @@ loop-again c =
       omega arith,
       ⊎-elim
           (λ w. ap₂ leadAs (w .1) (w .2) ∙ lead-moves tag waits (turn .loop .at) (turn .loop .flow) (turn .loop .least)
-          (keyed .key-of .result) (turn .loop .inv .1) (keyed .key-of .ensures) low (omega arith) (omega arith) (w .0 .taken))
+          (keyed .key-of .result) (turn .loop .inv .1) (keyed .key-of .ensures) low (omega arith) (omega arith)
+          (w .0 .taken))
           (λ w. ap₂ leadAs (w .1) (w .2) ∙ lead-stays tag waits (turn .loop .at) (turn .loop .flow) (turn .loop .least)
-          (keyed .key-of .result) (turn .loop .inv .1) (keyed .key-of .ensures) low (omega arith) (omega arith) (w .0 .left))
+          (keyed .key-of .result) (turn .loop .inv .1) (keyed .key-of .ensures) low (omega arith) (omega arith)
+          (w .0 .left))
           (c .if1 .came),
       ⊎-elim (λ w. omega (arith, w .1)) (λ w. omega (arith, w .1)) (c .if1 .came),
       ⊎-elim (λ w. let h = w .0 .taken in omega (arith, w .2)) (λ w. omega (arith, w .2)) (c .if1 .came),

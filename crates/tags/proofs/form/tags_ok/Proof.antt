@@ -1,5 +1,5 @@
--- `tags::form::tags_ok` meets its contract. The loop's invariant: the tags before `at` are well formed; the first that is not
--- ends it. The measure is what is left of the flows.
+-- `tags::form::tags_ok` meets its contract. The loop's invariant: the tags before `at` are well formed; the first that
+-- is not ends it. The measure is what is left of the flows.
 -- Assumes nothing.
 use mathlib.Core.Path.{_≡_, sym, ap, _∙_}
 use mathlib.Core.Bool.{true}

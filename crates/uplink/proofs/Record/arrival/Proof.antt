@@ -26,13 +26,15 @@ taken-at c = c .before .before .before .before .before .before .before .before
 ready : (told : tie.After-enum-told)
     → let passed = lent-at (replied told) in
     let args = begun passed .args in
-    Storable (args .t1) (args .flow) (args .length) (passed .before .before .before .before .table .result) (args .lengths .now) (args .handles .now)
+    Storable (args .t1) (args .flow) (args .length) (passed .before .before .before .before .table .result)
+    (args .lengths .now) (args .handles .now)
 ready told =
     let formed = replied told in
     let passed = lent-at formed in
     let args = begun passed .args in
     storable (args .t1) (args .lengths .now) (args .handles .now) (args .flow) (args .length) (args .handle) _
-    (passed .before .are-lent .ensures) (passed .if1 .left) _ (formed .before .is-formed .ensures) (formed .if2 .left) _ (told .before .before .arrival-reply .ensures)
+    (passed .before .are-lent .ensures) (passed .if1 .left) _ (formed .before .is-formed .ensures) (formed .if2 .left) _
+    (told .before .before .arrival-reply .ensures)
     (told .enum-told .given .1)
     _ (passed .before .before .before .before .table .ensures)
 
@@ -53,7 +55,8 @@ is-formed-requires c κs =
 arrival-reply-requires : tie.Need-arrival-reply-requires
 arrival-reply-requires c κs =
     let formed = c .before .before .before in
-    was-formed _ (begun (lent-at formed) .args .lengths .now) _ (formed .before .is-formed .ensures) (formed .if2 .left) .few
+    was-formed _ (begun (lent-at formed) .args .lengths .now) _ (formed .before .is-formed .ensures)
+    (formed .if2 .left) .few
 
 enum-told : tie.Need-enum-told
 enum-told c = search needs
@@ -68,26 +71,38 @@ cast-bytes : tie.Need-cast-bytes
 cast-bytes c = let known = ready (c .before .before .before .before .before) in search needs
 
 store-requires : tie.Need-store-requires
-store-requires c κs = let known = ready (c .before .before .before .before .before .before .before) in (known .flow, known .lengths-lent, known .handles-lent)
+store-requires c κs =
+    let known = ready (c .before .before .before .before .before .before .before) in
+    (known .flow, known .lengths-lent, known .handles-lent)
 
 field-requires-2 : tie.Need-field-requires-2
 field-requires-2 c κs = ready (taken-at (c .before .before .before .before .before .before .before .before)) .flow
 
 cost-at-requires : tie.Need-cost-at-requires
 cost-at-requires c κs =
-    let known = ready (taken-at (c .before .before .before .before .before .before .before .before .before)) in
-    (omega (arith, known .share-low, c .field2 .ensures), omega (arith, known .share-high, c .field2 .ensures), known .table-right)
+    let known = ready (taken-at (c .before .before .before .before .before .before .before .before .before)) in (
+      omega (arith, known .share-low, c .field2 .ensures),
+      omega (arith, known .share-high, c .field2 .ensures),
+      known .table-right,
+    )
 
 tag-at-requires : tie.Need-tag-at-requires
-tag-at-requires c κs = ready (taken-at (c .before .before .before .before .before .before .before .before .before .before .before .before)) .flow
+tag-at-requires c κs =
+    let near = c .before .before .before .before .before .before .before .before in
+    let there = near .before .before .before .before in
+    ready (taken-at there) .flow
 
 front-tag-requires : tie.Need-front-tag-requires
 front-tag-requires c κs =
-    let known = ready (taken-at (c .before .before .before .before .before .before .before .before .before .before .before .before .before .before)) in
+    let near = c .before .before .before .before .before .before .before .before in
+    let known = ready (taken-at (near .before .before .before .before .before .before)) in
     (omega (arith, known .tag, c .before .tag-at .ensures), known .clock)
 
 put-tag-requires : tie.Need-put-tag-requires
-put-tag-requires c κs = ready (taken-at (c .before .before .before .before .before .before .before .before .before .before .before .before .before .before .before .before)) .flow
+put-tag-requires c κs =
+    let near = c .before .before .before .before .before .before .before .before in
+    let there = near .before .before .before .before .before .before .before .before in
+    ready (taken-at there) .flow
 
 enum-told-2 : tie.Need-enum-told-2
 enum-told-2 c = search needs
@@ -133,7 +148,8 @@ returns-3 c =
     let passed = lent-at formed in
     let args = begun passed .args in
     arrived-first (args .t1) (args .lengths .now) (args .handles .now) (args .flow) (args .length) (args .handle) _
-    (passed .before .are-lent .ensures) (passed .if1 .left) _ (formed .before .is-formed .ensures) (formed .if2 .left) _ (told .before .before .arrival-reply .ensures)
+    (passed .before .are-lent .ensures) (passed .if1 .left) _ (formed .before .is-formed .ensures) (formed .if2 .left) _
+    (told .before .before .arrival-reply .ensures)
     (told .enum-told .given .1) _ _ _ _ _ (joined .before .before .field .ensures)
     (joined .join .ensures .0) (stored .store .ensures) (joined .join .ensures .1) _ _ _ _ _ (empty .if3 .taken)
     (costed .before .field2 .ensures) (costed .cost-at .ensures) (tagged .tag-at .ensures) (fronted .front-tag .ensures)
@@ -154,7 +170,8 @@ returns-4 c =
     let passed = lent-at formed in
     let args = begun passed .args in
     arrived-behind (args .t1) (args .lengths .now) (args .handles .now) (args .flow) (args .length) (args .handle) _
-    (passed .before .are-lent .ensures) (passed .if1 .left) _ (formed .before .is-formed .ensures) (formed .if2 .left) _ (told .before .before .arrival-reply .ensures)
+    (passed .before .are-lent .ensures) (passed .if1 .left) _ (formed .before .is-formed .ensures) (formed .if2 .left) _
+    (told .before .before .arrival-reply .ensures)
     (told .enum-told .given .1) _ _ _ _ _ (joined .before .before .field .ensures)
     (joined .join .ensures .0) (stored .store .ensures) (joined .join .ensures .1) (c .if3 .left)
 
@@ -170,7 +187,8 @@ returns-5 c =
     let passed = lent-at formed in
     let args = begun passed .args in
     arrived-refused (args .t1) (args .lengths .now) (args .handles .now) (args .flow) (args .length) (args .handle) _
-    (passed .before .are-lent .ensures) (passed .if1 .left) _ (formed .before .is-formed .ensures) (formed .if2 .left) _ (c .before .before .arrival-reply .ensures) _ (c .enum-told2 .given .1)
+    (passed .before .are-lent .ensures) (passed .if1 .left) _ (formed .before .is-formed .ensures) (formed .if2 .left) _
+    (c .before .before .arrival-reply .ensures) _ (c .enum-told2 .given .1)
 
 pub arrival-spec : {M : Type 1} → statement M
 arrival-spec =

@@ -24,7 +24,7 @@ cast-flows c =
     let told = c .before in
     let args = told .before .before .before .before .before .before .before .before .before .before .args in
     let o = taken (args .shares .now) (args .largest .now) (args .lengths .now) (args .handles .now) _
-        (told .before .before .opening-reply .ensures) (told .enum-told .given .1) in
+    (told .before .before .opening-reply .ensures) (told .enum-told .given .1) in
     omega (arith, o .few)
 
 opened-requires : tie.Need-opened-requires
@@ -32,7 +32,7 @@ opened-requires c κs =
     let told = c .before in
     let args = told .before .before .before .before .before .before .before .before .before .before .args in
     let o = taken (args .shares .now) (args .largest .now) (args .lengths .now) (args .handles .now) _
-        (told .before .before .opening-reply .ensures) (told .enum-told .given .1) in
+    (told .before .before .opening-reply .ensures) (told .enum-told .given .1) in
     small-lists _ _ _ _ o
 
 widest-requires : tie.Need-widest-requires
@@ -41,7 +41,7 @@ widest-requires c κs =
     let told = opened .before .before in
     let args = told .before .before .before .before .before .before .before .before .before .before .args in
     let o = taken (args .shares .now) (args .largest .now) (args .lengths .now) (args .handles .now) _
-        (told .before .before .opening-reply .ensures) (told .enum-told .given .1) in
+    (told .before .before .opening-reply .ensures) (told .enum-told .given .1) in
     (o .few, opened .before .table .ensures, opened-shares _ _ _ _ o _ (opened .opened .ensures))
 
 clear-lengths-requires : tie.Need-clear-lengths-requires
@@ -57,7 +57,7 @@ cast-next c =
     let told = opened .before .before in
     let args = told .before .before .before .before .before .before .before .before .before .before .args in
     let o = taken (args .shares .now) (args .largest .now) (args .lengths .now) (args .handles .now) _
-        (told .before .before .opening-reply .ensures) (told .enum-told .given .1) in
+    (told .before .before .opening-reply .ensures) (told .enum-told .given .1) in
     omega (arith, wide .widest .ensures, width-fits _ _ _ _ o _ (opened .opened .ensures))
 
 enum-told-2 : tie.Need-enum-told-2

@@ -4,7 +4,8 @@
 use native.Mathlib.Omega.{arith}
 use borrow.Author.Needs.{needs}
 use Rattle.uplink.proofs.Checking.{both-lent, checked-unlent, checked-unformed}
-use Rattle.uplink.proofs.Picking.{Servable, servable, tagged, leap-most, gone-most, picked-idle, picked-late, picked-more, picked-last}
+use Rattle.uplink.proofs.Picking.{Servable, servable, tagged, leap-most, gone-most, picked-idle, picked-late}
+use Rattle.uplink.proofs.Picking.{picked-more, picked-last}
 use Rattle.uplink.proofs.Record.pick.Statement.{statement}
 use Rattle.uplink.proofs.Record.pick.Tie as tie
 
@@ -24,13 +25,15 @@ ready : (soon : tie.Else4)
     → let chosen = soon .before .before .before in
     let passed = lent-at (chosen .before .before .before .before) in
     let args = begun passed .args in
-    Servable (args .t1) (chosen .choose .result) (passed .before .before .before .before .table .result) (args .lengths .now) (args .handles .now)
+    Servable (args .t1) (chosen .choose .result) (passed .before .before .before .before .table .result)
+    (args .lengths .now) (args .handles .now)
 ready soon =
     let chosen = soon .before .before .before in
     let formed = chosen .before .before .before .before in
     let passed = lent-at formed in
     let args = begun passed .args in
-    servable (args .t1) (args .lengths .now) (args .handles .now) _ (passed .before .are-lent .ensures) (passed .if1 .left) _
+    servable (args .t1) (args .lengths .now) (args .handles .now) _ (passed .before .are-lent .ensures)
+    (passed .if1 .left) _
     (formed .before .is-formed .ensures) (formed .if2 .left) _ (chosen .choose .ensures)
     (soon .before .if3 .left) (soon .if4 .left) _ (passed .before .before .before .before .table .ensures)
 
@@ -53,7 +56,8 @@ choose-requires c κs =
     let formed = c .before .before .before in
     let passed = lent-at formed in
     let args = begun passed .args in
-    tagged (args .t1) (args .lengths .now) (args .handles .now) _ (passed .before .are-lent .ensures) (passed .if1 .left) _
+    tagged (args .t1) (args .lengths .now) (args .handles .now) _ (passed .before .are-lent .ensures)
+    (passed .if1 .left) _
     (formed .before .is-formed .ensures) (formed .if2 .left)
 
 leap-requires : tie.Need-leap-requires
@@ -63,7 +67,8 @@ go-on-requires : tie.Need-go-on-requires
 go-on-requires c κs = let known = ready (c .before .before .before .before) in (known .flow, known .first-below)
 
 leave-requires : tie.Need-leave-requires
-leave-requires c κs = let known = ready (c .before .before .before .before .before .before) in (known .flow, known .waits)
+leave-requires c κs =
+    let known = ready (c .before .before .before .before .before .before) in (known .flow, known .waits)
 
 advance-requires : tie.Need-advance-requires
 advance-requires c κs =
@@ -74,12 +79,18 @@ advance-requires c κs =
     )
 
 field-requires : tie.Need-field-requires
-field-requires c κs = ready (gone-at (c .before .before .before .before .before .before .before .before .before .before)) .flow
+field-requires c κs =
+    let there = c .before .before .before .before .before .before .before .before .before .before in
+    ready (gone-at there) .flow
 
 cost-at-requires : tie.Need-cost-at-requires
 cost-at-requires c κs =
-    let known = ready (gone-at (c .before .before .before .before .before .before .before .before .before .before .before)) in
-    (omega (arith, known .share-low, c .field .ensures), omega (arith, known .share-high, c .field .ensures), known .table-right)
+    let near = c .before .before .before .before .before .before .before .before in
+    let known = ready (gone-at (near .before .before .before)) in (
+      omega (arith, known .share-low, c .field .ensures),
+      omega (arith, known .share-high, c .field .ensures),
+      known .table-right,
+    )
 
 front-tag-requires : tie.Need-front-tag-requires
 front-tag-requires c κs =
@@ -95,12 +106,16 @@ front-tag-requires c κs =
     let known = ready soon in
     let short = rw (← on .go-on .ensures .0) at (known .short) in
     let leap = leap-most _ _ _ _ (leapt .leap .ensures) in
-    let late = gone-most (gone .advance .result) _ _ (leapt .leap .result .clock .0) (args .t1 .link .0) (args .lengths .now)
+    let late = gone-most (gone .advance .result) _ _ (leapt .leap .result .clock .0) (args .t1 .link .0)
+    (args .lengths .now)
     (args .handles .now) (gone .advance .ensures .0) short in
     (known .tag, omega (arith, late, leap, known .clock, known .width))
 
 put-tag-requires : tie.Need-put-tag-requires
-put-tag-requires c κs = ready (gone-at (c .before .before .before .before .before .before .before .before .before .before .before .before .before .before)) .flow
+put-tag-requires c κs =
+    let near = c .before .before .before .before .before .before .before .before in
+    let there = near .before .before .before .before .before .before in
+    ready (gone-at there) .flow
 
 same-length : tie.Need-same-length
 same-length c = search needs
@@ -136,7 +151,8 @@ returns-3 c =
     let formed = chosen .before .before .before .before in
     let passed = lent-at formed in
     let args = begun passed .args in
-    picked-idle (args .t1) (args .lengths .now) (args .handles .now) _ (passed .before .are-lent .ensures) (passed .if1 .left) _
+    picked-idle (args .t1) (args .lengths .now) (args .handles .now) _ (passed .before .are-lent .ensures)
+    (passed .if1 .left) _
     (formed .before .is-formed .ensures) (formed .if2 .left) _ (chosen .choose .ensures)
     (c .before .before .if3 .taken)
 
@@ -152,7 +168,8 @@ returns-4 c =
     let formed = chosen .before .before .before .before in
     let passed = lent-at formed in
     let args = begun passed .args in
-    picked-late (args .t1) (args .lengths .now) (args .handles .now) _ (passed .before .are-lent .ensures) (passed .if1 .left) _
+    picked-late (args .t1) (args .lengths .now) (args .handles .now) _ (passed .before .are-lent .ensures)
+    (passed .if1 .left) _
     (formed .before .is-formed .ensures) (formed .if2 .left) _ (chosen .choose .ensures)
     (c .before .if3 .left) (c .if4 .taken)
 
@@ -176,7 +193,8 @@ returns-5 c =
     let formed = chosen .before .before .before .before in
     let passed = lent-at formed in
     let args = begun passed .args in
-    picked-more (args .t1) (args .lengths .now) (args .handles .now) _ (passed .before .are-lent .ensures) (passed .if1 .left) _
+    picked-more (args .t1) (args .lengths .now) (args .handles .now) _ (passed .before .are-lent .ensures)
+    (passed .if1 .left) _
     (formed .before .is-formed .ensures) (formed .if2 .left) _ (chosen .choose .ensures)
     (soon .before .if3 .left) (soon .if4 .left) _ _ _ _ _ _ _ _ (leapt .leap .ensures) (on .go-on .ensures .0)
     (left .leave .ensures .0) (gone .advance .ensures) (on .go-on .ensures .1) (left .leave .ensures .1) _ _ _ _
@@ -200,7 +218,8 @@ returns-6 c =
     let formed = chosen .before .before .before .before in
     let passed = lent-at formed in
     let args = begun passed .args in
-    picked-last (args .t1) (args .lengths .now) (args .handles .now) _ (passed .before .are-lent .ensures) (passed .if1 .left) _
+    picked-last (args .t1) (args .lengths .now) (args .handles .now) _ (passed .before .are-lent .ensures)
+    (passed .if1 .left) _
     (formed .before .is-formed .ensures) (formed .if2 .left) _ (chosen .choose .ensures)
     (soon .before .if3 .left) (soon .if4 .left) _ _ _ _ _ _ _ _ (leapt .leap .ensures) (on .go-on .ensures .0)
     (left .leave .ensures .0) (gone .advance .ensures) (on .go-on .ensures .1) (left .leave .ensures .1)
