@@ -46,6 +46,37 @@ static size_t place(const struct plain_record *record, uint32_t f, unsigned k)
 
 #ifndef PLAIN_UNCHECKED
 
+#ifdef PLAIN_STRETCHES
+
+/* Every length of a stretch is from 1 to the largest. It goes on to the end, so that the compiler may take several
+ * lengths at once. */
+static bool stretch_fits(const uint16_t *lengths, unsigned count, uint16_t largest)
+{
+    uint16_t most = largest - 1;
+    uint16_t wrong = 0;
+
+    for (unsigned k = 0; k < count; k++) {
+        uint16_t n = lengths[k] - 1;
+        wrong |= n > most ? n - most : 0;
+    }
+    return wrong == 0;
+}
+
+/* "every waiting length from 1 to the flow's largest": all places, or one stretch of them, or two */
+static bool lengths_fit(const struct plain_flow *flow, const uint16_t *ring)
+{
+    unsigned end = flow->first + flow->waiting;
+
+    if (flow->waiting == PLAIN_RING)
+        return stretch_fits(ring, PLAIN_RING, flow->largest);
+    if (end <= PLAIN_RING)
+        return stretch_fits(ring + flow->first, flow->waiting, flow->largest);
+    return stretch_fits(ring + flow->first, PLAIN_RING - flow->first, flow->largest)
+        && stretch_fits(ring, end - PLAIN_RING, flow->largest);
+}
+
+#else
+
 /* "every waiting length from 1 to the flow's largest" */
 static bool lengths_fit(const struct plain_flow *flow, const uint16_t *ring)
 {
@@ -56,6 +87,8 @@ static bool lengths_fit(const struct plain_flow *flow, const uint16_t *ring)
     }
     return true;
 }
+
+#endif
 
 /* "a waiting flow's tag is at least the clock and at most clock + 3 leaps; any other flow's tag is at most
  * clock + 2 leaps" */

@@ -1,7 +1,8 @@
 /* The uplink scheduler in plain C: the three calls of document 01 over a record by pointer.
  *
  * The caller owns the record and the two memories. A refused call changes nothing.
- * With PLAIN_UNCHECKED defined, arrival and pick leave out the test that the record is well formed, and nothing else. */
+ * With PLAIN_UNCHECKED defined, arrival and pick leave out the test that the record is well formed, and nothing else.
+ * With PLAIN_STRETCHES defined, waiting lengths are tested a stretch at a time, not one by one. */
 #ifndef PLAIN_H
 #define PLAIN_H
 
