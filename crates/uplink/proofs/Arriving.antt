@@ -1,10 +1,11 @@
 -- What each way through an arrival gives, as the rule has it.
 -- Assumes nothing.
 use mathlib.Core.Path.{_≡_, sym, ap, _∙_}
-use mathlib.Core.Bool.{Bool, false, not}
+use mathlib.Core.Bool.{Bool, false, not, cond}
 use mathlib.Core.List.{List}
 use Prim.Native.Nat.{ℕ, _+_, _^_, _≤_, _<_}
 use native.Mathlib.Omega.{arith}
+use lib.Dec.{eqb}
 use lib.ListN.{length, set}
 use lib.Seq.{set-getD}
 use borrow.Author.Tests.{eq-eqb, ne-eqb}
@@ -19,7 +20,7 @@ use Rattle.queues.specs.Places.{lent}
 use Rattle.queues.specs.Laws.{ranged-out, join-done}
 use Rattle.tags.specs.Ticks.{ticks, frontTag}
 use Rattle.tags.specs.declared.ServerTicks.{ServerTicks}
-use Rattle.uplink.specs.Flow.{joinedFlow}
+use Rattle.uplink.specs.Flow.{joinedFlow, flowCost}
 use Rattle.uplink.specs.Record.{flowAt, tagOf, waitingOf, with, tagsOf, put}
 use Rattle.uplink.specs.State.{Outcome, state, outcome}
 use Rattle.uplink.specs.Form.{formed}
@@ -87,44 +88,39 @@ module _ (r : Record) (lengths handles : List ℕ) (f n handle : ℕ) (a : Bool)
         (a-first : first ≡ flowAt r f .queue .first) (a-waiting : waiting ≡ waitingOf r f)
         (stored : (ls ≡ set lengths (placeOf f first waiting) n) × (hs ≡ set handles (placeOf f first waiting) handle))
         (counted : waits ≡ set (r .queues .waiting) f (waiting + 1)) where
-      -- the flow was empty: its tag changes
-      pub arrived-first : (share cost : ℕ) (tag next : ServerTicks) (tags : List ℕ) → waiting ≡ 0
-          → share ≡ flowAt r f .queue .share → cost ≡ costOf share → tag .0 ≡ tagOf r f
-          → next ≡ ticks (frontTag (tag .0) (r .clock .0) cost n) → tags ≡ set (r .tags .0) f (next .0)
-          → outcome (arrivalReply reply) (with r (r .clock) (r .link) (tagsOf tags)
+      -- the packet taken, and the record with these tags
+      abbrev joined : List ℕ → Outcome
+      joined tags =
+          outcome (arrivalReply reply) (with r (r .clock) (r .link) (tagsOf tags)
           (queuesOf (r .queues .share) (r .queues .largest) (r .queues .first) waits)) ls hs
-          ≡ arrivalRule (state r lengths handles) f n handle
+
+      -- where the flow's tag is the rule's, so is all else
+      arrived : (tags : List ℕ)
+          → tags ≡ set (r .tags .0) f (cond (eqb (waitingOf r f) 0)
+          (frontTag (tagOf r f) (r .clock .0) (flowCost (flowAt r f)) n) (tagOf r f))
+          → joined tags ≡ arrivalRule (state r lengths handles) f n handle
       unfolding storeRule joinedFlow put
-      arrived-first share cost tag next tags z s c t m p = taken-on _ (rw (
+      arrived tags p = taken-on _ (rw (
         d,
         stored .0,
         stored .1,
         counted,
         p,
-        m,
-        t,
-        c,
-        s,
         a-first,
         a-waiting,
         put-joined (r .queues) f (waitingOf r f + 1),
-        eq-eqb (waitingOf r f) 0 (sym a-waiting ∙ z),
       ))
 
+      -- the flow was empty: its tag changes
+      pub arrived-first : (share cost : ℕ) (tag next : ServerTicks) (tags : List ℕ) → waiting ≡ 0
+          → share ≡ flowAt r f .queue .share → cost ≡ costOf share → tag .0 ≡ tagOf r f
+          → next ≡ ticks (frontTag (tag .0) (r .clock .0) cost n) → tags ≡ set (r .tags .0) f (next .0)
+          → joined tags ≡ arrivalRule (state r lengths handles) f n handle
+      arrived-first share cost tag next tags z s c t m p =
+          arrived tags (p ∙ rw (m, t, c, s, eq-eqb (waitingOf r f) 0 (sym a-waiting ∙ z)))
+
       -- it waited: no tag changes
-      pub arrived-behind : (waiting ≡ 0 → ⊥)
-          → outcome (arrivalReply reply) (with r (r .clock) (r .link) (r .tags)
-          (queuesOf (r .queues .share) (r .queues .largest) (r .queues .first) waits)) ls hs
-          ≡ arrivalRule (state r lengths handles) f n handle
-      unfolding storeRule joinedFlow put
-      arrived-behind z = taken-on _ (rw (
-        d,
-        stored .0,
-        stored .1,
-        counted,
-        a-first,
-        a-waiting,
-        put-joined (r .queues) f (waitingOf r f + 1),
-        ne-eqb (waitingOf r f) 0 (λ y. z (a-waiting ∙ y)),
-        set-getD (r .tags .0) f 0,
-      ))
+      pub arrived-behind : (waiting ≡ 0 → ⊥) → joined (r .tags .0) ≡ arrivalRule (state r lengths handles) f n handle
+      arrived-behind z =
+          arrived (r .tags .0)
+          (rw (ne-eqb (waitingOf r f) 0 (λ y. z (a-waiting ∙ y)), set-getD (r .tags .0) f 0))

@@ -1,10 +1,11 @@
 -- What each way through a pick gives, as the rule has it.
 -- Assumes nothing.
-use mathlib.Core.Path.{_≡_}
-use mathlib.Core.Bool.{Bool, true, false, not}
+use mathlib.Core.Path.{_≡_, _∙_}
+use mathlib.Core.Bool.{Bool, true, false, not, cond}
 use mathlib.Core.List.{List}
 use Prim.Native.Nat.{ℕ, _+_, _-_, _%_, _^_, _≤_, _<_}
 use native.Mathlib.Omega.{arith}
+use lib.Dec.{ltb}
 use lib.ListN.{length, getD, set}
 use lib.Seq.{set-getD}
 use borrow.Author.Tests.{not-true, not-false, le-ltb, lt-ltb}
@@ -23,7 +24,7 @@ use Rattle.tags.specs.declared.LinkTicks.{LinkTicks}
 use Rattle.tags.specs.declared.ServerTicks.{ServerTicks}
 use Rattle.tags.specs.declared.choice.Lead.{Lead}
 use Rattle.tags.specs.declared.steps.Leapt.{Leapt}
-use Rattle.uplink.specs.Flow.{servedFlow}
+use Rattle.uplink.specs.Flow.{servedFlow, flowCost}
 use Rattle.uplink.specs.Record.{flowAt, tagOf, waitingOf, with, tagsOf, linkTime, rested, put}
 use Rattle.uplink.specs.State.{Outcome, state, outcome}
 use Rattle.uplink.specs.Form.{formed}
@@ -154,59 +155,48 @@ module _ (r : Record) (lengths handles : List ℕ) (a : Bool) (l : a ≡ lent le
             × (hs ≡ set handles (placeOf (lead .flow) first 0) 0))
             (on : firsts ≡ set (r .queues .first) (lead .flow) ((first + 1) % 64))
             (fewer : waits ≡ set (r .queues .waiting) (lead .flow) (waiting - 1)) where
-          abbrev nextRecord : List ℕ → Record
-          nextRecord tags =
-              with r (gone .clock) (gone .link) (tagsOf tags)
-              (queuesOf (r .queues .share) (r .queues .largest) firsts waits)
+          -- the packet that went, and the record with these tags
+          abbrev sent : List ℕ → Outcome
+          sent tags =
+              outcome
+              (packet (lead .flow) (gone .length) (gone .handle) (lead .tag .0) (leap .leapt) (gone .clock .0))
+              (with r (gone .clock) (gone .link) (tagsOf tags)
+              (queuesOf (r .queues .share) (r .queues .largest) firsts waits)) ls hs
+
+          -- where the flow's tag is the rule's, so is all else
+          picked : (tags : List ℕ)
+              → tags ≡ set (r .tags .0) (lead .flow) (cond (ltb 1 (waitingOf r (lead .flow)))
+              (frontTag (lead .tag .0) (gone .clock .0) (flowCost (flowAt r (lead .flow))) (gone .behind)) (lead .tag .0))
+              → sent tags ≡ pickRule (state r lengths handles)
+          unfolding serveRule servedFlow put leapRule
+          picked tags p = served-on _ (rw (
+            p,
+            went .1,
+            went .2,
+            went .0,
+            on,
+            fewer,
+            leapt,
+            a-first,
+            a-waiting,
+            ← own,
+            put-left (r .queues) (lead .flow) ((flowAt r (lead .flow) .queue .first + 1) % 64)
+                (waitingOf r (lead .flow) - 1),
+          ))
 
           -- another packet comes to the front, and the flow gets its tag
           pub picked-more : (share cost : ℕ) (next : ServerTicks) (tags : List ℕ) → 1 < waiting
               → share ≡ flowAt r (lead .flow) .queue .share → cost ≡ costOf share
               → next ≡ ticks (frontTag (lead .tag .0) (gone .clock .0) cost (gone .behind))
-              → tags ≡ set (r .tags .0) (lead .flow) (next .0)
-              → outcome
-              (packet (lead .flow) (gone .length) (gone .handle) (lead .tag .0) (leap .leapt) (gone .clock .0))
-              (nextRecord tags) ls hs
-              ≡ pickRule (state r lengths handles)
-          unfolding serveRule servedFlow put leapRule
-          picked-more share cost next tags h s c m p = served-on _ (rw (
-            p,
-            m,
-            c,
-            s,
-            went .1,
-            went .2,
-            went .0,
-            on,
-            fewer,
-            leapt,
-            a-first,
-            a-waiting,
-            ← own,
-            put-left (r .queues) (lead .flow) ((flowAt r (lead .flow) .queue .first + 1) % 64)
-                (waitingOf r (lead .flow) - 1),
-            lt-ltb 1 (waitingOf r (lead .flow)) (omega (arith, h, a-waiting)),
-          ))
+              → tags ≡ set (r .tags .0) (lead .flow) (next .0) → sent tags ≡ pickRule (state r lengths handles)
+          picked-more share cost next tags h s c m p =
+              picked tags (p ∙ rw (m, c, s, lt-ltb 1 (waitingOf r (lead .flow)) (omega (arith, h, a-waiting))))
 
           -- it was the last, and the tag stays
-          pub picked-last : waiting ≤ 1
-              → outcome
-              (packet (lead .flow) (gone .length) (gone .handle) (lead .tag .0) (leap .leapt) (gone .clock .0))
-              (nextRecord (r .tags .0)) ls hs
-              ≡ pickRule (state r lengths handles)
-          unfolding serveRule servedFlow put leapRule
-          picked-last h = served-on _ (rw (
-            went .1,
-            went .2,
-            went .0,
-            on,
-            fewer,
-            leapt,
-            a-first,
-            a-waiting,
-            ← own,
-            put-left (r .queues) (lead .flow) ((flowAt r (lead .flow) .queue .first + 1) % 64)
-                (waitingOf r (lead .flow) - 1),
-            le-ltb 1 (waitingOf r (lead .flow)) (omega (arith, h, a-waiting)),
-            set-getD (r .tags .0) (lead .flow) 0,
-          ))
+          pub picked-last : waiting ≤ 1 → sent (r .tags .0) ≡ pickRule (state r lengths handles)
+          picked-last h = picked (r .tags .0)
+              (rw (
+                le-ltb 1 (waitingOf r (lead .flow)) (omega (arith, h, a-waiting)),
+                ← own,
+                set-getD (r .tags .0) (lead .flow) 0,
+              ))

@@ -55,8 +55,8 @@ is-formed-requires c κs =
 arrival-reply-requires : tie.Need-arrival-reply-requires
 arrival-reply-requires c κs =
     let formed = c .before .before .before in
-    was-formed _ (begun (lent-at formed) .args .lengths .now) _ (formed .before .is-formed .ensures)
-    (formed .if2 .left) .few
+    let args = begun (lent-at formed) .args in
+    was-formed (args .t1) (args .lengths .now) _ (formed .before .is-formed .ensures) (formed .if2 .left) .few
 
 enum-told : tie.Need-enum-told
 enum-told c = search needs
