@@ -5,16 +5,17 @@ use mathlib.Core.Path.{_≡_, refl, sym, ap, ap₂, _∙_}
 use mathlib.Core.Bool.{Bool, true, false, not, cond}
 use mathlib.Core.List.{List, [], _++_, append-nil}
 use Prim.Native.Nat.{ℕ, suc, _+_, _-_, _*_, _≤_, _<_}
-use native.Mathlib.Nat.{zero-add, sub-zero}
+use native.Mathlib.Nat.{sub-zero}
 use native.Mathlib.Numerals.{add-one}
 use native.Mathlib.Omega.{arith}
 use lib.Dec.{eqb, leb}
 use lib.ListN.{length, getD, set, take, drop, replicate}
-use lib.ListN.{length-set, length-drop, getD-replicate, take-append-drop, List·getD-eq-default}
-use lib.Seq.{drop-length, getD-drop, ext-getD, paste-suc}
+use lib.ListN.{length-set, length-drop, length-replicate, getD-replicate, take-append-drop, List·getD-eq-default}
+use lib.Seq.{drop-length, getD-drop, ext-getD}
 use borrow.Author.Fill.{fill-none, fill-more}
 use borrow.Author.Tests.{eqb-true, not-true, not-false, le-leb, lt-leb}
 use Rattle.below.specs.Below.{sumBelow-none, sumBelow-more}
+use Rattle.below.specs.Copied.{Copied, copied-none, copied-more}
 use Rattle.below.specs.Truth.{both-true}
 use Rattle.cost.specs.Cost.{within, within-bounds}
 use Rattle.reply.specs.Reply.{Reply, done, refused}
@@ -127,19 +128,22 @@ module _ (shares largest : List ℕ) where
 -- the first n of the 64 entries of a list, with the others all zeros
 pub record Booked (list : List ℕ) (n : ℕ) (entries : List ℕ) : Type 0 where
   pub reached : n ≤ length list
-  pub so-far : entries ≡ take n (field64 list) ++ drop n (replicate 64 0)
+  pub entered : Copied (field64 list) (replicate 64 0) n entries
 
 module _ (list : List ℕ) where
+  all-64 : length (field64 list) ≡ length {A = ℕ} (replicate 64 0)
+  all-64 = field-length list ∙ sym (length-replicate {A = ℕ} 64 0)
+
   pub booked-none : Booked list 0 (replicate 64 0)
-  booked-none = record { reached = omega arith; so-far = refl }
+  booked-none = record { reached = omega arith; entered = copied-none (field64 list) (replicate 64 0) all-64 }
 
   pub booked-more : (n : ℕ) (entries : List ℕ) → Booked list n entries → length list ≤ 64 → n < length list
       → Booked list (n + 1) (set entries n (getD list n 0))
   booked-more n entries b few h =
       record {
         reached = omega arith;
-        so-far = rw (b .so-far, ← field-at list n (omega arith), add-one) (simp zero-add at
-            (paste-suc (replicate 64 0) 0 (field64 list) n 0 (omega arith) (rw field-length (omega arith))));
+        entered = rw (← field-at list n (omega arith))
+            (copied-more (field64 list) (replicate 64 0) all-64 n entries 0 (rw field-length (omega arith)) (b .entered));
       }
 
   -- past the end of the list every entry is 0
@@ -149,7 +153,7 @@ module _ (list : List ℕ) where
   pub booked-all : (n : ℕ) (entries : List ℕ) → Booked list n entries → length list ≤ 64 → length list ≤ n
       → entries ≡ field64 list
   booked-all n entries b few h = let e : n ≡ length list = omega (arith, b .reached) in
-      b .so-far ∙ ap (λ l. take n (field64 list) ++ l)
+      b .entered .so-far ∙ ap (λ l. take n (field64 list) ++ l)
       (sym (ext-getD 0 (drop n (field64 list)) (drop n (replicate 64 0))
       (simp (length-drop, field-length))
       (λ k u. let v : k < 64 - n = rw (length-drop, field-length) at u in

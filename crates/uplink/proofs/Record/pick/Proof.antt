@@ -16,20 +16,37 @@ lent-at c = c .before .before .before .before .before .before .before .before .b
 abbrev begun : tie.Else1 → tie.Start
 begun c = c .before .before .before .before .before .before .before
 
--- from where the front packet has gone to where it was known that one goes
+-- from where the front packet has gone: to where one fewer waits, to where the ring has gone on, to where the clock has
+-- leapt or not, and to where it was known that one goes
+abbrev left-at : tie.After-advance → tie.After-leave
+left-at c = c .before .before .before .before
+
+abbrev on-at : tie.After-advance → tie.After-go-on
+on-at c = left-at c .before .before
+
+abbrev leapt-at : tie.After-advance → tie.After-leap
+leapt-at c = on-at c .before .before
+
 abbrev gone-at : tie.After-advance → tie.Else4
-gone-at c = c .before .before .before .before .before .before .before .before .before .before .before
+gone-at c = leapt-at c .before .before .before
+
+-- and from there to where the flow was chosen, and to where the form was tested
+abbrev chosen-at : tie.Else4 → tie.After-choose
+chosen-at c = c .before .before .before
+
+abbrev formed-at : tie.After-choose → tie.Else2
+formed-at c = c .before .before .before .before
 
 -- what the checks leave
 ready : (soon : tie.Else4)
-    → let chosen = soon .before .before .before in
-    let passed = lent-at (chosen .before .before .before .before) in
+    → let chosen = chosen-at soon in
+    let passed = lent-at (formed-at chosen) in
     let args = begun passed .args in
     Servable (args .t1) (chosen .choose .result) (passed .before .before .before .before .table .result)
     (args .lengths .now) (args .handles .now)
 ready soon =
-    let chosen = soon .before .before .before in
-    let formed = chosen .before .before .before .before in
+    let chosen = chosen-at soon in
+    let formed = formed-at chosen in
     let passed = lent-at formed in
     let args = begun passed .args in
     servable (args .t1) (args .lengths .now) (args .handles .now) _ (passed .before .are-lent .ensures)
@@ -95,20 +112,16 @@ cost-at-requires c κs =
 front-tag-requires : tie.Need-front-tag-requires
 front-tag-requires c κs =
     let gone = c .before .before .before .before .before .before .before .before .before .before .before .before in
-    let left = gone .before .before .before .before in
-    let on = left .before .before in
-    let leapt = on .before .before in
-    let soon = leapt .before .before .before in
-    let chosen = soon .before .before .before in
-    let formed = chosen .before .before .before .before in
+    let soon = gone-at gone in
+    let chosen = chosen-at soon in
+    let formed = formed-at chosen in
     let passed = lent-at formed in
     let args = begun passed .args in
     let known = ready soon in
-    let short = rw (← on .go-on .ensures .0) at (known .short) in
-    let leap = leap-most _ _ _ _ (leapt .leap .ensures) in
-    let late = gone-most (gone .advance .result) _ _ (leapt .leap .result .clock .0) (args .t1 .link .0)
-    (args .lengths .now)
-    (args .handles .now) (gone .advance .ensures .0) short in
+    let short = rw (← on-at gone .go-on .ensures .0) at (known .short) in
+    let leap = leap-most _ _ _ _ (leapt-at gone .leap .ensures) in
+    let late = gone-most (gone .advance .result) _ _ (leapt-at gone .leap .result .clock .0) (args .t1 .link .0)
+    (args .lengths .now) (args .handles .now) (gone .advance .ensures .0) short in
     (known .tag, omega (arith, late, leap, known .clock, known .width))
 
 put-tag-requires : tie.Need-put-tag-requires
@@ -148,7 +161,7 @@ same-length-6 c = search needs
 returns-3 : tie.Need-returns-3
 returns-3 c =
     let chosen = c .before .before .before .before in
-    let formed = chosen .before .before .before .before in
+    let formed = formed-at chosen in
     let passed = lent-at formed in
     let args = begun passed .args in
     picked-idle (args .t1) (args .lengths .now) (args .handles .now) _ (passed .before .are-lent .ensures)
@@ -165,7 +178,7 @@ same-length-8 c = search needs
 returns-4 : tie.Need-returns-4
 returns-4 c =
     let chosen = c .before .before .before in
-    let formed = chosen .before .before .before .before in
+    let formed = formed-at chosen in
     let passed = lent-at formed in
     let args = begun passed .args in
     picked-late (args .t1) (args .lengths .now) (args .handles .now) _ (passed .before .are-lent .ensures)
@@ -185,19 +198,18 @@ returns-5 c =
     let costed = fronted .before in
     let more = costed .before .before .before .before .before in
     let gone = more .before .before .before .before .before .before .before in
-    let left = gone .before .before .before .before in
-    let on = left .before .before in
-    let leapt = on .before .before in
-    let soon = leapt .before .before .before in
-    let chosen = soon .before .before .before in
-    let formed = chosen .before .before .before .before in
+    let soon = gone-at gone in
+    let chosen = chosen-at soon in
+    let formed = formed-at chosen in
     let passed = lent-at formed in
     let args = begun passed .args in
     picked-more (args .t1) (args .lengths .now) (args .handles .now) _ (passed .before .are-lent .ensures)
     (passed .if1 .left) _
     (formed .before .is-formed .ensures) (formed .if2 .left) _ (chosen .choose .ensures)
-    (soon .before .if3 .left) (soon .if4 .left) _ _ _ _ _ _ _ _ (leapt .leap .ensures) (on .go-on .ensures .0)
-    (left .leave .ensures .0) (gone .advance .ensures) (on .go-on .ensures .1) (left .leave .ensures .1) _ _ _ _
+    (soon .before .if3 .left) (soon .if4 .left) _ _ _ _ _ _ _ _ (leapt-at gone .leap .ensures)
+    (on-at gone .go-on .ensures .0)
+    (left-at gone .leave .ensures .0) (gone .advance .ensures) (on-at gone .go-on .ensures .1)
+    (left-at gone .leave .ensures .1) _ _ _ _
     (more .if5 .taken) (costed .before .field .ensures) (costed .cost-at .ensures) (fronted .front-tag .ensures)
     (c .put-tag .ensures)
 
@@ -210,19 +222,18 @@ same-length-12 c = search needs
 returns-6 : tie.Need-returns-6
 returns-6 c =
     let gone = c .before .before .before .before .before .before .before in
-    let left = gone .before .before .before .before in
-    let on = left .before .before in
-    let leapt = on .before .before in
-    let soon = leapt .before .before .before in
-    let chosen = soon .before .before .before in
-    let formed = chosen .before .before .before .before in
+    let soon = gone-at gone in
+    let chosen = chosen-at soon in
+    let formed = formed-at chosen in
     let passed = lent-at formed in
     let args = begun passed .args in
     picked-last (args .t1) (args .lengths .now) (args .handles .now) _ (passed .before .are-lent .ensures)
     (passed .if1 .left) _
     (formed .before .is-formed .ensures) (formed .if2 .left) _ (chosen .choose .ensures)
-    (soon .before .if3 .left) (soon .if4 .left) _ _ _ _ _ _ _ _ (leapt .leap .ensures) (on .go-on .ensures .0)
-    (left .leave .ensures .0) (gone .advance .ensures) (on .go-on .ensures .1) (left .leave .ensures .1)
+    (soon .before .if3 .left) (soon .if4 .left) _ _ _ _ _ _ _ _ (leapt-at gone .leap .ensures)
+    (on-at gone .go-on .ensures .0)
+    (left-at gone .leave .ensures .0) (gone .advance .ensures) (on-at gone .go-on .ensures .1)
+    (left-at gone .leave .ensures .1)
     (c .if5 .left)
 
 pub pick-spec : {M : Type 1} → statement M
