@@ -9,6 +9,7 @@ use lib.ListN.{getD, set}
 use Rattle.cost.specs.Charge.{linkTicks}
 use Rattle.reply.specs.Reply.{idle, packet}
 use Rattle.queues.specs.Queue.{placeOf}
+use Rattle.queues.specs.Places.{freedOf}
 use Rattle.tags.specs.Ticks.{ticks, leaps, leapClock}
 use Rattle.tags.specs.Choice.{leadBy}
 use Rattle.tags.specs.declared.choice.Lead.{Lead}
@@ -94,14 +95,14 @@ chooseRule s =
 abbrev pub pickRule : State → Outcome
 pickRule s = checked s (chooseRule s)
 
--- what `advance` of `src/pick.rt` gives: the front packet of flow f, and both clocks after it
+-- what `advance` of `src/pick.rt` gives: the packet that `free` frees, and both clocks after it
 abbrev pub goneOf : ℕ → ℕ → ℕ → ℕ → List ℕ → List ℕ → Gone
 goneOf f first clock link lengths handles =
-    let n = getD lengths (placeOf f first 0) 0 in
+    let freed = freedOf f first lengths handles in
     record {
-      length = n;
-      handle = getD handles (placeOf f first 0) 0;
-      behind = getD lengths (placeOf f first 1) 0;
-      clock = ticks (clock + linkTicks n);
-      link = linkTime (link + linkTicks n);
+      length = freed .length;
+      handle = freed .handle;
+      behind = freed .behind;
+      clock = ticks (clock + linkTicks (freed .length));
+      link = linkTime (link + linkTicks (freed .length));
     }
