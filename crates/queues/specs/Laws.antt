@@ -5,18 +5,18 @@ use mathlib.Core.Path.{_≡_, refl, _∙_}
 use mathlib.Core.Bool.{Bool, true, false, cond, _&&_}
 use mathlib.Core.List.{List, []}
 use Prim.Native.Nat.{ℕ, zero, suc, _≤_, _<_}
-use native.Mathlib.Nat.{zero-add}
+use native.Mathlib.Nat.{zero-add, mul-le-mul}
 use native.Mathlib.Omega.{arith}
 use lib.Dec.{leb, ltb, eqb}
 use lib.ListN.{length, getD, replicate, length-replicate}
 use borrow.Author.Tests.{leb-true, ltb-true, eqb-true, le-leb}
-use Rattle.below.specs.Below.{allBelow-at, allBelow-of}
+use Rattle.below.specs.Below.{allBelow-at, allBelow-of, mostBelow, mostBelow-le}
 use Rattle.below.specs.Listed.{listed-at, length-listed}
 use Rattle.below.specs.Truth.{both-true}
-use Rattle.cost.specs.Cost.{within, within-of, within-bounds}
+use Rattle.cost.specs.Cost.{within, within-of, within-bounds, cost-most}
 use Rattle.reply.specs.Reply.{Reply, done, refused}
 use Rattle.reply.specs.Replies.{refused-done}
-use Rattle.queues.specs.Queue.{Queue, queueOf, noQueue, placeOf}
+use Rattle.queues.specs.Queue.{Queue, queueOf, noQueue, bookedTicks, placeOf}
 use Rattle.queues.specs.Queues.{queueAt, Sized}
 use Rattle.queues.specs.Form.{booked, placed, ranged, lengthsFormed, queueFormed, spareQueue}
 use Rattle.queues.specs.Places.{joinReply}
@@ -123,6 +123,12 @@ pub join-done : (flows f n largest waiting : ℕ) → joinReply flows f n larges
 join-done flows f n largest waiting =
     join-cases flows f n largest waiting (λ reply. reply ≡ done [] → Joinable flows f n largest waiting)
     (λ taken _. taken) (λ number low high e. refused-done e)
+
+-- no leap width is above 1,080,000,000 where no largest packet is above 1,500
+pub width-at-most : (share largest : ℕ → ℕ) (n : ℕ) → ((f : ℕ) → f < n → largest f ≤ 1500)
+    → mostBelow (λ f. bookedTicks (share f) (largest f)) n ≤ 1080000000
+width-at-most share largest n small =
+    mostBelow-le _ n 1080000000 λ f h. mul-le-mul {n₂ = 1500} (small f h) (cost-most (share f))
 
 -- nothing stands at any place of a list of zeros
 pub zeros-at : (n k : ℕ) → _≡_ {A = ℕ} (getD (replicate n 0) k 0) 0

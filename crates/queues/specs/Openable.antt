@@ -5,22 +5,21 @@ use mathlib.Core.Path.{_≡_, refl}
 use mathlib.Core.Bool.{Bool, true, false, cond}
 use mathlib.Core.List.{List, []}
 use Prim.Native.Nat.{ℕ, zero, suc, _+_, _≤_, _<_}
-use native.Mathlib.Nat.{mul-le-mul}
 use native.Mathlib.Decide.{ℕ-discrete}
 use native.Mathlib.Omega.{arith}
 use lib.Dec.{leb, eqb}
 use lib.ListN.{length, getD}
 use borrow.Author.Tests.{leb-true, eqb-true}
-use Rattle.below.specs.Below.{mostBelow, mostBelow-le}
+use Rattle.below.specs.Below.{mostBelow}
 use Rattle.below.specs.Truth.{both-true}
-use Rattle.cost.specs.Cost.{within, within-bounds, cost-most}
+use Rattle.cost.specs.Cost.{within, within-bounds}
 use Rattle.reply.specs.Reply.{Reply, idle, done, refused}
 use Rattle.reply.specs.Replies.{refused-done, idle-done}
 use Rattle.queues.specs.Queue.{bookedTicks}
 use Rattle.queues.specs.Queues.{sharesOf}
 use Rattle.queues.specs.Places.{lent}
 use Rattle.queues.specs.Opening.{newQueues, paired, faultFrom, orElse, tableReply, listsReply}
-use Rattle.queues.specs.Laws.{field-at}
+use Rattle.queues.specs.Laws.{field-at, width-at-most}
 use Rattle.queues.specs.Placed.{Shared, Small}
 use Rattle.queues.specs.declared.Queues.{Queues}
 
@@ -129,6 +128,6 @@ module _ (shares largest lengths handles : List ℕ) (o : Openable shares larges
     pub width-fits : mostBelow (λ f. bookedTicks (getD (q .share) f 0) (getD (q .largest) f 0))
         (length shares) ≤ 1080000000
     unfolding newQueues
-    width-fits = mostBelow-le _ (length shares) 1080000000 λ f h.
-        mul-le-mul {n₂ = 1500} (rw (n, field-at largest f (omega (arith, o .few))) (o .each f h .largest-high))
-        (cost-most (getD (q .share) f 0))
+    width-fits =
+        width-at-most (λ f. getD (q .share) f 0) (λ f. getD (q .largest) f 0) (length shares)
+        λ f h. rw (n, field-at largest f (omega (arith, o .few))) (o .each f h .largest-high)

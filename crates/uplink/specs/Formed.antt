@@ -5,16 +5,15 @@ use mathlib.Core.Path.{_≡_}
 use mathlib.Core.Bool.{Bool, true, _&&_}
 use mathlib.Core.List.{List}
 use Prim.Native.Nat.{ℕ, _^_, _≤_, _<_}
-use native.Mathlib.Nat.{mul-le-mul}
 use native.Mathlib.Omega.{arith}
 use lib.Dec.{leb, eqb}
 use borrow.Author.Tests.{leb-true, ltb-true, eqb-true, le-leb, lt-ltb, eq-eqb, ltb-false, le-ltb}
-use Rattle.below.specs.Below.{allBelow-at, allBelow-of, mostBelow-le}
+use Rattle.below.specs.Below.{allBelow-at, allBelow-of}
 use Rattle.below.specs.Truth.{both-true, both-of, four-true, four-of, or-right, or-either}
-use Rattle.cost.specs.Cost.{within, within-bounds, within-of, cost-most}
+use Rattle.cost.specs.Cost.{within, within-bounds, within-of}
 use Rattle.queues.specs.Queues.{sharesOf, widthOf}
 use Rattle.queues.specs.Form.{counts, booked, placed, ranged, queueFormed, tabled, queuesFormed}
-use Rattle.queues.specs.Laws.{ranged-out, spare-out, spare-in}
+use Rattle.queues.specs.Laws.{ranged-out, width-at-most, spare-out, spare-in}
 use Rattle.tags.specs.Form.{tagFormed, tagsFormed}
 use Rattle.tags.specs.Laws.{tag-at-most}
 use Rattle.uplink.specs.Flow.{Flow, noFlow, spareFlow}
@@ -98,9 +97,8 @@ width-most r lengths F =
     omega (
       arith,
       F .width,
-      mostBelow-le _ (r .flows) 1080000000 λ f h.
-          mul-le-mul (ranged-out (flowAt r f .queue) (F .each f h .range) .largest-high)
-          (cost-most (flowAt r f .queue .share)),
+      width-at-most (λ f. flowAt r f .queue .share) (λ f. flowAt r f .queue .largest) (r .flows)
+          λ f h. ranged-out (flowAt r f .queue) (F .each f h .range) .largest-high,
     )
 
 -- no tag of a well-formed record is near the end of 64 bits
