@@ -35,7 +35,7 @@ struct side {
 static inline uint64_t side_opening(struct side *side, const uint32_t *shares, const uint32_t *largest, size_t flows)
 {
 #ifdef OURS
-    return gateway_opening(shares, flows, largest, flows, side->record, UPLINK_RECORD_WORDS,
+    return uplink_opening(shares, flows, largest, flows, side->record, UPLINK_RECORD_WORDS,
                            side->lengths, UPLINK_PLACES, side->handles, UPLINK_PLACES);
 #else
     uint32_t at;
@@ -48,7 +48,7 @@ static inline uint64_t side_opening(struct side *side, const uint32_t *shares, c
 static inline uint32_t side_arrival(struct side *side, uint32_t flow, uint32_t length, uint32_t handle)
 {
 #ifdef OURS
-    return gateway_arrival(flow, length, handle, side->record, UPLINK_RECORD_WORDS,
+    return uplink_arrival(flow, length, handle, side->record, UPLINK_RECORD_WORDS,
                            side->lengths, UPLINK_PLACES, side->handles, UPLINK_PLACES);
 #else
     return plain_arrival(flow, length, handle, side->record,
@@ -59,7 +59,7 @@ static inline uint32_t side_arrival(struct side *side, uint32_t flow, uint32_t l
 static inline uint32_t side_pick(struct side *side, side_reply reply)
 {
 #ifdef OURS
-    return gateway_pick(side->record, UPLINK_RECORD_WORDS, side->lengths, UPLINK_PLACES,
+    return uplink_pick(side->record, UPLINK_RECORD_WORDS, side->lengths, UPLINK_PLACES,
                         side->handles, UPLINK_PLACES, reply, UPLINK_REPLY_WORDS);
 #else
     return plain_pick(side->record, side->lengths, UPLINK_PLACES, side->handles, UPLINK_PLACES, reply);

@@ -1,8 +1,8 @@
 /* Noon at the gateway: a camera and sixty loggers share one link, all of them with packets waiting all the time.
  * Prints what the camera and the loggers got, beside what they booked.
  *
- * Build and run, in the repository's folder, once `rt staticlib gateway` has made the library:
- *   gcc -O2 -Iinclude examples/noon.c target/staticlib/libgateway.a -o target/noon && target/noon
+ * Build and run, in the repository's folder, once `tools/library` has made it:
+ *   gcc -O2 -Iinclude examples/noon.c target/library/libuplink.a -o target/noon && target/noon
  */
 #include <inttypes.h>
 #include <stdio.h>
@@ -28,7 +28,7 @@ static void must(const char *call, uint64_t answer)
 
 static void arrive(uint32_t flow, uint32_t handle)
 {
-    must("arrival", gateway_arrival(flow, largest[flow], handle, record, UPLINK_RECORD_WORDS, lengths, UPLINK_PLACES,
+    must("arrival", uplink_arrival(flow, largest[flow], handle, record, UPLINK_RECORD_WORDS, lengths, UPLINK_PLACES,
                                     handles, UPLINK_PLACES));
 }
 
@@ -40,7 +40,7 @@ int main(void)
         shares[f] = f == CAMERA ? 700 : 5;
         largest[f] = f == CAMERA ? 1500 : 64;
     }
-    must("opening", gateway_opening(shares, FLOWS, largest, FLOWS, record, UPLINK_RECORD_WORDS, lengths, UPLINK_PLACES,
+    must("opening", uplink_opening(shares, FLOWS, largest, FLOWS, record, UPLINK_RECORD_WORDS, lengths, UPLINK_PLACES,
                                     handles, UPLINK_PLACES));
 
     /* The burst: every flow has packets waiting, and each that is sent is followed by another. */
@@ -48,7 +48,7 @@ int main(void)
         for (uint32_t k = 0; k < DEEP; k++)
             arrive(f, k);
     for (uint32_t i = 0; i < PICKS; i++) {
-        must("pick", gateway_pick(record, UPLINK_RECORD_WORDS, lengths, UPLINK_PLACES, handles, UPLINK_PLACES, reply,
+        must("pick", uplink_pick(record, UPLINK_RECORD_WORDS, lengths, UPLINK_PLACES, handles, UPLINK_PLACES, reply,
                                   UPLINK_REPLY_WORDS));
         bytes[reply[0]] += reply[1];
         all += reply[1];

@@ -1,8 +1,8 @@
 //! Noon at the gateway: a camera and sixty loggers share one link, all of them with packets waiting all the time.
 //! Prints what the camera and the loggers got, beside what they booked.
 //!
-//! Build and run, in the repository's folder, once `rt staticlib gateway` has made the library:
-//!   rustc -O examples/noon.rs -L target/staticlib -l static=gateway -o target/noon-rs && target/noon-rs
+//! Build and run, in the repository's folder, once `tools/library` has made it:
+//!   rustc -O examples/noon.rs -L target/library -l static=uplink -o target/noon-rs && target/noon-rs
 
 #[path = "../include/uplink.rs"]
 #[allow(dead_code)]

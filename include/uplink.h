@@ -47,7 +47,7 @@ extern "C" {
  * Where it is done, record is that of the table with nothing waiting, and every place of both memories is 0.
  * Answers a number of the list above in its low 32 bits and, with 4 and 5, the flow in its high 32 bits (else 0).
  * Order of refusals: 101, 1, 3, then flow by flow 4 before 5, then 6. */
-uint64_t gateway_opening(const uint32_t *shares, size_t shares_count,
+uint64_t uplink_opening(const uint32_t *shares, size_t shares_count,
                          const uint32_t *largest, size_t largest_count,
                          uint64_t *record, size_t record_words,
                          uint16_t *lengths, size_t lengths_places,
@@ -55,7 +55,7 @@ uint64_t gateway_opening(const uint32_t *shares, size_t shares_count,
 
 /* A packet of `length` bytes, which the caller knows by `handle`, comes to `flow` and waits behind the flow's last one.
  * Answers a number of the list above. Order of refusals: 101, 1, 2, 7, 8, 9. */
-uint32_t gateway_arrival(uint32_t flow, uint32_t length, uint32_t handle,
+uint32_t uplink_arrival(uint32_t flow, uint32_t length, uint32_t handle,
                          uint64_t *record, size_t record_words,
                          uint16_t *lengths, size_t lengths_places,
                          uint32_t *handles, size_t handles_places);
@@ -63,7 +63,7 @@ uint32_t gateway_arrival(uint32_t flow, uint32_t length, uint32_t handle,
 /* The packet to send next. Where the answer is UPLINK_DONE, reply holds flow, length, handle, tag, leapt (0 or 1) and
  * clock, in this order, and the packet waits no more; with any other answer no word of reply changes.
  * Order of answers: 101, 102, 1, 2, UPLINK_IDLE, 10. */
-uint32_t gateway_pick(uint64_t *record, size_t record_words,
+uint32_t uplink_pick(uint64_t *record, size_t record_words,
                       uint16_t *lengths, size_t lengths_places,
                       uint32_t *handles, size_t handles_places,
                       uint64_t *reply, size_t reply_words);

@@ -1,6 +1,6 @@
 //! The uplink scheduler for Rust: a safe wrapper over the functions of `uplink.h`, which says more of each.
 //!
-//! Take this file in as a module (`#[path = ".."] mod uplink;`) and link `libgateway.a`; it needs the standard library
+//! Take this file in as a module (`#[path = ".."] mod uplink;`) and link `libuplink.a`; it needs the standard library
 //! alone.
 //! Lengths are in bytes. Tags and clocks are in ticks: a byte takes the link 720 of them.
 
@@ -12,7 +12,7 @@ const REPLY_WORDS: usize = 6;
 
 // A slice goes to C as a pointer and a length.
 extern "C" {
-    fn gateway_opening(
+    fn uplink_opening(
         shares: *const u32,
         shares_count: usize,
         largest: *const u32,
@@ -24,7 +24,7 @@ extern "C" {
         handles: *mut u32,
         handles_places: usize,
     ) -> u64;
-    fn gateway_arrival(
+    fn uplink_arrival(
         flow: u32,
         length: u32,
         handle: u32,
@@ -35,7 +35,7 @@ extern "C" {
         handles: *mut u32,
         handles_places: usize,
     ) -> u32;
-    fn gateway_pick(
+    fn uplink_pick(
         record: *mut u64,
         record_words: usize,
         lengths: *mut u16,
@@ -125,7 +125,7 @@ impl Uplink {
         };
         // Safety: each pointer is lent with its own length, no two overlap, and the call keeps none of them.
         let answer = unsafe {
-            gateway_opening(
+            uplink_opening(
                 shares.as_ptr(),
                 shares.len(),
                 largest.as_ptr(),
@@ -148,7 +148,7 @@ impl Uplink {
     pub fn arrival(&mut self, flow: u32, length: u32, handle: u32) -> Result<(), Refusal> {
         // Safety: as in `open`.
         let answer = unsafe {
-            gateway_arrival(
+            uplink_arrival(
                 flow,
                 length,
                 handle,
@@ -171,7 +171,7 @@ impl Uplink {
         let mut reply = [0u64; REPLY_WORDS];
         // Safety: as in `open`.
         let answer = unsafe {
-            gateway_pick(
+            uplink_pick(
                 self.record.as_mut_ptr(),
                 RECORD_WORDS,
                 self.lengths.as_mut_ptr(),

@@ -34,14 +34,14 @@ static uint64_t library_answer(const struct call *call, const struct state *stat
         const uint32_t *shares_at = lend(&shares, call->shares_count, call->shares, CALL_ROWS);
         const uint32_t *largest_at = lend(&largest, call->largest_count, call->largest, CALL_ROWS);
 
-        return gateway_opening(shares_at, call->shares_count, largest_at, call->largest_count,
+        return uplink_opening(shares_at, call->shares_count, largest_at, call->largest_count,
                                record_at, call->record_words, lengths_at, call->lengths_places,
                                handles_at, call->handles_places);
     }
     if (call->kind == ARRIVAL)
-        return gateway_arrival(call->flow, call->length, call->handle, record_at, call->record_words,
+        return uplink_arrival(call->flow, call->length, call->handle, record_at, call->record_words,
                                lengths_at, call->lengths_places, handles_at, call->handles_places);
-    return gateway_pick(record_at, call->record_words, lengths_at, call->lengths_places,
+    return uplink_pick(record_at, call->record_words, lengths_at, call->lengths_places,
                         handles_at, call->handles_places,
                         lend(&reply, call->reply_words, reply_given, UPLINK_REPLY_WORDS), call->reply_words);
 }

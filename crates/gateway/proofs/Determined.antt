@@ -11,15 +11,15 @@ use borrow.Fn.Kinds.{endedOf}
 use denote.Triple.Clauses.{AtExit}
 use denote.Ref.{now}
 use Rattle.gateway.specs.Gateway.{Answered, answered, lending}
-use Rattle.gateway.proofs.gateway_opening as opening
-use Rattle.gateway.proofs.gateway_opening.Kinds as opening-kinds
-use Rattle.gateway.proofs.gateway_opening.Reads as opening-reads
-use Rattle.gateway.proofs.gateway_arrival as arrival
-use Rattle.gateway.proofs.gateway_arrival.Kinds as arrival-kinds
-use Rattle.gateway.proofs.gateway_arrival.Reads as arrival-reads
-use Rattle.gateway.proofs.gateway_pick as pick
-use Rattle.gateway.proofs.gateway_pick.Kinds as pick-kinds
-use Rattle.gateway.proofs.gateway_pick.Reads as pick-reads
+use Rattle.gateway.proofs.uplink_opening as opening
+use Rattle.gateway.proofs.uplink_opening.Kinds as opening-kinds
+use Rattle.gateway.proofs.uplink_opening.Reads as opening-reads
+use Rattle.gateway.proofs.uplink_arrival as arrival
+use Rattle.gateway.proofs.uplink_arrival.Kinds as arrival-kinds
+use Rattle.gateway.proofs.uplink_arrival.Reads as arrival-reads
+use Rattle.gateway.proofs.uplink_pick as pick
+use Rattle.gateway.proofs.uplink_pick.Kinds as pick-kinds
+use Rattle.gateway.proofs.uplink_pick.Reads as pick-reads
 
 -- what is told has one answer and leaves one block, two memories and one reply
 module _ (n m : ℕ) (block block' lengths lengths' handles handles' reply reply' : List ℕ)

@@ -61,7 +61,7 @@ fn write_packet(
 
 // Opens a table: its flows' shares and largest packets.
 #[no_mangle]
-pub extern "C" fn gateway_opening(
+pub extern "C" fn uplink_opening(
     shares: &[u32],
     largest: &[u32],
     block: &mut [u64],
@@ -89,7 +89,7 @@ pub extern "C" fn gateway_opening(
 
 // A packet comes to a flow.
 #[no_mangle]
-pub extern "C" fn gateway_arrival(
+pub extern "C" fn uplink_arrival(
     flow: u32,
     length: u32,
     handle: u32,
@@ -135,7 +135,7 @@ fn flow_of(answer: PickReply) -> u32
 
 // The packet to send next.
 #[no_mangle]
-pub extern "C" fn gateway_pick(
+pub extern "C" fn uplink_pick(
     block: &mut [u64],
     lengths: &mut [u16],
     handles: &mut [u32],

@@ -1,9 +1,9 @@
--- `gateway::gateway_pick` meets its contract: each way through it is one case of its definition.
+-- `gateway::uplink_pick` meets its contract: each way through it is one case of its definition.
 -- Assumes nothing.
 use borrow.Author.Needs.{needs}
 use Rattle.gateway.proofs.Calls.{pick-unblocked, pick-unreplied, pick-refused, pick-idle, pick-packet}
-use Rattle.gateway.proofs.gateway_pick.Statement.{statement}
-use Rattle.gateway.proofs.gateway_pick.Tie as tie
+use Rattle.gateway.proofs.uplink_pick.Statement.{statement}
+use Rattle.gateway.proofs.uplink_pick.Tie as tie
 
 returns : tie.Need-returns
 returns c = search (needs, pick-unblocked)
@@ -101,8 +101,8 @@ returns-5 c =
     (chosen .flow-of .ensures .0) (stepped .write-step .ensures) _ _ _ _ _ _ _ (known .answer2 .given .1)
     (sent .write-packet .ensures)
 
-pub gateway-pick-spec : {M : Type 1} → statement M
-gateway-pick-spec =
+pub uplink-pick-spec : {M : Type 1} → statement M
+uplink-pick-spec =
     tie.close
     (tie.spec
     returns

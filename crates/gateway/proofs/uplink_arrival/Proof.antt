@@ -1,9 +1,9 @@
--- `gateway::gateway_arrival` meets its contract: each way through it is one case of its definition.
+-- `gateway::uplink_arrival` meets its contract: each way through it is one case of its definition.
 -- Assumes nothing.
 use borrow.Author.Needs.{needs}
 use Rattle.gateway.proofs.Calls.{arrival-unblocked, arrival-done, arrival-refused}
-use Rattle.gateway.proofs.gateway_arrival.Statement.{statement}
-use Rattle.gateway.proofs.gateway_arrival.Tie as tie
+use Rattle.gateway.proofs.uplink_arrival.Statement.{statement}
+use Rattle.gateway.proofs.uplink_arrival.Tie as tie
 
 returns : tie.Need-returns
 returns c = search (needs, arrival-unblocked)
@@ -50,8 +50,8 @@ same-length-6 c = search needs
 returns-3 : tie.Need-returns-3
 returns-3 c = search (needs, arrival-refused)
 
-pub gateway-arrival-spec : {M : Type 1} → statement M
-gateway-arrival-spec =
+pub uplink-arrival-spec : {M : Type 1} → statement M
+uplink-arrival-spec =
     tie.close
     (tie.spec
     returns

@@ -1,9 +1,9 @@
--- `gateway::gateway_opening` meets its contract: each way through it is one case of its definition.
+-- `gateway::uplink_opening` meets its contract: each way through it is one case of its definition.
 -- Assumes nothing.
 use borrow.Author.Needs.{needs}
 use Rattle.gateway.proofs.Calls.{opening-unblocked, opening-refused, opening-done}
-use Rattle.gateway.proofs.gateway_opening.Statement.{statement}
-use Rattle.gateway.proofs.gateway_opening.Tie as tie
+use Rattle.gateway.proofs.uplink_opening.Statement.{statement}
+use Rattle.gateway.proofs.uplink_opening.Tie as tie
 
 cast-result : tie.Need-cast-result
 cast-result c = search needs
@@ -65,8 +65,8 @@ same-length-5 c = search needs
 returns-3 : tie.Need-returns-3
 returns-3 c = search (needs, opening-done)
 
-pub gateway-opening-spec : {M : Type 1} → statement M
-gateway-opening-spec =
+pub uplink-opening-spec : {M : Type 1} → statement M
+uplink-opening-spec =
     tie.close
     (tie.spec
     cast-result
