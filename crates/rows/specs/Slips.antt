@@ -4,19 +4,17 @@ use mathlib.Core.Path.{_≡_, refl}
 use mathlib.Core.Bool.{Bool, true, false, cond}
 use Prim.Native.Nat.{ℕ, _+_, _*_, _/_, min, _≤_}
 use native.Mathlib.Omega.{arith}
-use lib.Dec.{leb, eqb}
+use lib.Dec.{eqb}
 use borrow.Author.Tests.{eqb-false, le-ltb}
 use Rattle.cost.specs.Cost.{costOf}
-use Rattle.reply.specs.Reply.{idle}
-use Rattle.queues.specs.Queue.{joined}
 use Rattle.tags.specs.Ticks.{leaps, leapClock, frontTag}
-use Rattle.uplink.specs.Flow.{flowOf}
-use Rattle.uplink.specs.Record.{tagOf, moved, rested}
-use Rattle.uplink.specs.State.{State, Outcome, outcome}
+use Rattle.uplink.specs.Flow.{flowCost}
+use Rattle.uplink.specs.Record.{flowAt, tagOf, waitingOf, moved, with}
+use Rattle.uplink.specs.State.{State, Outcome}
 use Rattle.uplink.specs.Arrival.{arrivalRule}
-use Rattle.uplink.specs.Pick.{linkOn, serveRule, idleRule, pickRule}
+use Rattle.uplink.specs.Pick.{serveRule, pickRule}
 use Rattle.rows.specs.Examples.{bothWait, noneWaits, atEquality, afterLeap}
-use Rattle.rows.specs.Parts.{apart, arrivalWith, pickWith, serveWith}
+use Rattle.rows.specs.Altered.{apart, leaping, reheld, retagged, whenDone, whenIdle, whenPicked}
 
 -- "Clamping .. a cost", to 16 bits: P9's share of 10
 abbrev pub clampedCost : ℕ → ℕ
@@ -52,8 +50,9 @@ one-leap-enough clock width T near = go (leaps clock width T) refl
 
 -- "or leaping at equality": at P5's pick
 abbrev pub leapsAtEquality : State → Outcome
-leapsAtEquality = pickWith idleRule
-    (λ s f. serveWith (leb (s .held .clock .0 + 2 * s .held .width) (tagOf (s .held) f)) (linkOn s f) s f)
+leapsAtEquality =
+    whenPicked
+    (λ s f. let r = s .held in serveRule (cond (eqb (tagOf r f) (r .clock .0 + 2 * r .width)) (leaping s) s) f)
 
 pub leaps-at-equality-differs : leapsAtEquality atEquality ≡ pickRule atEquality → ⊥
 unfolding atEquality
@@ -61,9 +60,7 @@ leaps-at-equality-differs = apart (λ o. o .state .held .clock .0) _ _ refl
 
 -- "Leaping before looking for nothing waiting, so that Idle keeps a clock": at P4's pick
 abbrev pub idleKeepsClock : State → Outcome
-idleKeepsClock = pickWith
-    (λ s. outcome idle (moved (rested (s .held)) (s .held .clock .0) 0) (s .lengths) (s .handles))
-    serveRule
+idleKeepsClock s = whenIdle (λ r. moved r (s .held .clock .0) 0) (pickRule s)
 
 pub idle-keeps-clock-differs : idleKeepsClock noneWaits ≡ pickRule noneWaits → ⊥
 unfolding noneWaits
@@ -71,9 +68,7 @@ idle-keeps-clock-differs = apart (λ o. o .state .held .clock .0) _ _ refl
 
 -- "Leaving the tags at Idle while the clock goes to 0": at P4's pick
 abbrev pub idleKeepsTags : State → Outcome
-idleKeepsTags = pickWith
-    (λ s. outcome idle (moved (s .held) 0 0) (s .lengths) (s .handles))
-    serveRule
+idleKeepsTags s = whenIdle (λ r. with r (r .clock) (r .link) (s .held .tags) (r .queues)) (pickRule s)
 
 pub idle-keeps-tags-differs : idleKeepsTags noneWaits ≡ pickRule noneWaits → ⊥
 unfolding noneWaits
@@ -81,8 +76,9 @@ idle-keeps-tags-differs = apart (λ o. tagOf (o .state .held) 0) _ _ refl
 
 -- "Tagging on arrival behind a waiting packet": a second packet of 100 bytes at flow 0, after P1
 abbrev pub tagsBehind : State → ℕ → ℕ → ℕ → Outcome
-tagsBehind = arrivalWith
-    (λ w clock cost n. flowOf (frontTag (w .tag .0) (clock .0) cost n) (joined (w .queue)))
+tagsBehind s f n handle =
+    whenDone (retagged f (frontTag (tagOf (s .held) f) (s .held .clock .0) (flowCost (flowAt (s .held) f)) n))
+    (arrivalRule s f n handle)
 
 pub tags-behind-differs : tagsBehind bothWait 0 100 9 ≡ arrivalRule bothWait 0 100 9 → ⊥
 unfolding bothWait
@@ -90,9 +86,10 @@ tags-behind-differs = apart (λ o. tagOf (o .state .held) 0) _ _ refl
 
 -- "Restarting an empty flow at the clock and forgetting its higher tag": 100 bytes at flow 0 after P6, as at P8
 abbrev pub restartsAtClock : State → ℕ → ℕ → ℕ → Outcome
-restartsAtClock = arrivalWith
-    (λ w clock cost n.
-    flowOf (cond (eqb (w .queue .waiting) 0) (frontTag 0 (clock .0) cost n) (w .tag .0)) (joined (w .queue)))
+restartsAtClock s f n handle =
+    cond (eqb (waitingOf (s .held) f) 0)
+    (arrivalRule (reheld s (retagged f 0 (s .held))) f n handle)
+    (arrivalRule s f n handle)
 
 pub restarts-at-clock-differs : restartsAtClock afterLeap 0 100 7 ≡ arrivalRule afterLeap 0 100 7 → ⊥
 unfolding afterLeap

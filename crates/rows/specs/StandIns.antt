@@ -2,21 +2,21 @@
 -- of the type of the rule it imitates, and a named state at which it differs from that rule.
 -- Assumes nothing.
 use mathlib.Core.Path.{_≡_, refl}
-use mathlib.Core.Bool.{cond, true}
-use mathlib.Core.List.{List, [], _∷_}
+use mathlib.Core.Bool.{cond}
+use mathlib.Core.List.{List}
 use Prim.Native.Nat.{ℕ, _+_}
 use lib.Dec.{eqb}
 use lib.ListN.{getD}
 use Rattle.reply.specs.Reply.{Reply, idle, done, refused}
 use Rattle.uplink.specs.declared.Record.{Record}
-use Rattle.uplink.specs.Record.{blank, waitingOf}
+use Rattle.uplink.specs.Record.{blank, waitingOf, moved}
 use Rattle.uplink.specs.State.{State, Outcome, outcome}
 use Rattle.uplink.specs.Opening.{openingRule}
 use Rattle.uplink.specs.Arrival.{arrivalRule}
-use Rattle.uplink.specs.Pick.{leapt, linkOn, serveRule, idleRule, pickRule}
+use Rattle.uplink.specs.Pick.{leapt, serveRule, pickRule}
 use Rattle.uplink.specs.Calls.{everyRule, start}
 use Rattle.rows.specs.Examples.{pair, bothWait, flow1Waits, beforeLeap, flow1Leads}
-use Rattle.rows.specs.Parts.{apart, pickWith, serveWith}
+use Rattle.rows.specs.Altered.{apart, firstValue, leaping, whenDone, whenPicked}
 
 -- 1 where a reply is a refusal
 abbrev refusals : Reply → ℕ
@@ -24,12 +24,11 @@ refusals idle = 0
 refusals (done values) = 0
 refusals (refused number flow) = 1
 
--- the first value of a reply: the flow of a pick
-abbrev firstValue : Reply → ℕ
-firstValue idle = 0
-firstValue (done []) = 0
-firstValue (done (value ∷ values)) = value
-firstValue (refused number flow) = 0
+-- the flow that a pick's reply tells
+abbrev flowTold : Reply → ℕ
+flowTold idle = 0
+flowTold (done values) = firstValue values
+flowTold (refused number flow) = 0
 
 -- the clock of a record
 abbrev clockOf : Record → ℕ
@@ -65,11 +64,11 @@ refuses-pick-differs number flow = apart (λ o. refusals (o .reply)) _ _ refl
 
 -- "one that always picks flow 0": at a state where both wait and flow 1 has the smaller tag
 abbrev pub picksFlow0 : State → Outcome
-picksFlow0 = pickWith idleRule (λ s f. serveRule s 0)
+picksFlow0 = whenPicked (λ s f. serveRule s 0)
 
 pub picks-flow-0-differs : picksFlow0 flow1Leads ≡ pickRule flow1Leads → ⊥
 unfolding flow1Leads
-picks-flow-0-differs = apart (λ o. firstValue (o .reply)) _ _ refl
+picks-flow-0-differs = apart (λ o. flowTold (o .reply)) _ _ refl
 
 -- "one that returns the record it got", with the right reply and the right memories
 abbrev pub keepsRecord : State → Outcome → Outcome
@@ -120,9 +119,9 @@ pub books-first-handles-differ : booksFirst flow1Waits .state .handles ≡ pickR
 unfolding flow1Waits
 books-first-handles-differ = apart (λ handles. getD handles 64 0) _ _ refl
 
--- "one that invents leaps": it leaps at every pick, and so at P2's
+-- "one that invents leaps": before every packet the clock goes on by Δ, and so at P2's pick
 abbrev pub inventsLeaps : State → Outcome
-inventsLeaps = pickWith idleRule (λ s f. serveWith true (linkOn s f) s f)
+inventsLeaps = whenPicked (λ s f. serveRule (leaping s) f)
 
 pub invents-leaps-differs : inventsLeaps bothWait ≡ pickRule bothWait → ⊥
 unfolding bothWait
@@ -130,8 +129,10 @@ invents-leaps-differs = apart (λ o. clockOf (o .state .held)) _ _ refl
 
 -- "or link time": a leap adds Δ to link time too, and so at P6's pick
 abbrev pub inventsLinkTime : State → Outcome
-inventsLinkTime = pickWith idleRule
-    (λ s f. serveWith (leapt (s .held) f) (linkOn s f + cond (leapt (s .held) f) (s .held .width) 0) s f)
+inventsLinkTime =
+    whenPicked
+    (λ s f.
+    whenDone (λ r. moved r (r .clock .0) (r .link .0 + cond (leapt (s .held) f) (r .width) 0)) (serveRule s f))
 
 pub invents-link-time-differs : inventsLinkTime beforeLeap ≡ pickRule beforeLeap → ⊥
 unfolding beforeLeap

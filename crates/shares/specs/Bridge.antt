@@ -46,6 +46,16 @@ frontCharge s f = cond (eqb (flowOf s f .queue .waiting) 0) 0 (chargeOf (frontLe
 abbrev pub viewOf : State → View
 viewOf s = record { tag = λ f. flowOf s f .tag .0; charge = frontCharge s }
 
+-- the tag of each flow with nothing waiting is the one told
+abbrev pub IdleTags : State → (ℕ → ℕ) → Type 0
+IdleTags s told = (f : ℕ) → flowOf s f .queue .waiting ≡ 0 → flowOf s f .tag .0 ≡ told f
+
+-- clock, link time and all tags are 0
+pub record Zeroed (s : State) : Type 0 where
+  pub clock : clockOf s ≡ 0
+  pub link : s .held .link .0 ≡ 0
+  pub tags : (f : ℕ) → flowOf s f .tag .0 ≡ 0
+
 -- what holds of record and memories from an accepted opening on
 pub record Steady (s : State) : Type 0 where
   -- the record has its 64 rows, and each memory its 4,096 places

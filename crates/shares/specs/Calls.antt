@@ -23,11 +23,11 @@ use Rattle.uplink.specs.Arrival.{storeRule, joinRule}
 use Rattle.uplink.specs.Pick.{clockLimit, serveRule, idleRule}
 use Rattle.uplink.specs.Calls.{Call, opening, arrival, pick}
 use Rattle.shares.specs.Start.{MovesOn}
-use Rattle.shares.specs.Bridge.{flowOf, clockOf, tableOf, viewOf, Steady}
-use Rattle.shares.specs.Store.{Joins, store-steady, store-table, store-start}
-use Rattle.shares.specs.Serve.{serve-in-time, serve-steady, serve-table, serve-clock-on, serve-moves}
-use Rattle.shares.specs.Idle.{Nobody, idle-steady, idle-table}
-use Rattle.shares.specs.Runs.{somethingWaits, takeRule, Taken, Gives, Plain, chargeIn, chargeFor, valueIn}
+use Rattle.shares.specs.Bridge.{flowOf, clockOf, tableOf, viewOf, IdleTags, Zeroed, Steady}
+use Rattle.shares.specs.Store.{Joins, store-steady, store-table, store-idle, store-start}
+use Rattle.shares.specs.Serve.{serve-in-time, serve-steady, serve-table, serve-idle, serve-clock-on, serve-moves}
+use Rattle.shares.specs.Idle.{Nobody, idle-steady, idle-zeroed, idle-table}
+use Rattle.shares.specs.Runs.{somethingWaits, takeRule, Taken, Gives, Plain, chargeIn, chargeFor, valueIn, tagAfter}
 use Rattle.shares.specs.Opened.{Late, opening-late}
 
 -- a call is refused: with no 1 or 2, and a pick with 10 alone, where something waits and the clock is at its limit
@@ -198,15 +198,28 @@ module _ (s : State) (S : Steady s) (call : Call) (o : Outcome) (plain : Plain c
             record { link = refl; clock = leap-clock (clockOf s) (s .held .width) T _; width = refl };
       }
 
-  -- and Idle sets both to 0
-  pub call-idle : o .reply ≡ idle → (clockOf (o .state) ≡ 0) × (o .state .held .link .0 ≡ 0)
+  -- a flow with nothing waiting has the tag of its last packet picked, where the reply is not Idle
+  pub call-last : (o .reply ≡ idle → ⊥) → (told : ℕ → ℕ) → IdleTags s told
+      → IdleTags (o .state) (λ f. tagAfter f (told f) (o .reply))
   unfolding storeRule serveRule idleRule
-  call-idle = call-ways s S call o plain gives
-      (λ o. o .reply ≡ idle → (clockOf (o .state) ≡ 0) × (o .state .held .link .0 ≡ 0))
+  call-last never told before = call-ways s S call o plain gives
+      (λ o. (o .reply ≡ idle → ⊥) → IdleTags (o .state) (λ f. tagAfter f (told f) (o .reply)))
+      record {
+        refuses = λ number _ _. before;
+        stores = λ f n handle joins _. store-idle s f n handle S joins told before;
+        rests = λ _ nobody never. absurd (never refl);
+        serves = λ _ f small below _. serve-idle s f S small told before;
+      }
+      never
+
+  -- and Idle sets clock, link time and all tags to 0
+  pub call-idle : o .reply ≡ idle → Zeroed (o .state)
+  unfolding storeRule serveRule idleRule
+  call-idle = call-ways s S call o plain gives (λ o. o .reply ≡ idle → Zeroed (o .state))
       record {
         refuses = λ number _ e. idle-refused (sym e);
         stores = λ f n handle joins e. idle-done (sym e);
-        rests = λ _ nobody _. (refl, refl);
+        rests = λ _ nobody _. idle-zeroed s S;
         serves = λ _ f small below e. idle-done (sym e);
       }
 

@@ -10,7 +10,7 @@ use Rattle.uplink.specs.Record.{rested, rested-at, rested-rows}
 use Rattle.uplink.specs.State.{State, state}
 use Rattle.uplink.specs.Formed.{Formed, FlowFormed, spare-flow, no-flow-spare}
 use Rattle.shares.specs.Keep.{reset-good}
-use Rattle.shares.specs.Bridge.{flowOf, Steady, tableOf, charge-idle}
+use Rattle.shares.specs.Bridge.{flowOf, Steady, Zeroed, tableOf, charge-idle}
 
 -- nothing waits
 abbrev pub Nobody : State → Type 0
@@ -24,6 +24,10 @@ module _ (s : State) (S : Steady s) where
   -- every tag is 0
   idle-tag : (f : ℕ) → flowOf after f .tag .0 ≡ 0
   idle-tag f = ap (λ x. x .tag .0) (rested-at (s .held) f)
+
+  -- and so are the clocks
+  pub idle-zeroed : Zeroed after
+  idle-zeroed = record { clock = refl; link = refl; tags = idle-tag }
 
   -- the table stays
   pub idle-table : tableOf after ≡ tableOf s

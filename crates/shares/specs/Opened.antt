@@ -13,7 +13,7 @@ use Rattle.queues.specs.Queue.{queueOf}
 use Rattle.queues.specs.Queues.{sharesOf}
 use Rattle.queues.specs.Places.{lent}
 use Rattle.queues.specs.Opening.{newQueues, paired, faultFrom, orElse, tableReply, listsReply}
-use Rattle.queues.specs.Laws.{ranged-in, queue-in, opened-at, opened-sized}
+use Rattle.queues.specs.Laws.{ranged-in, queue-in, zeros-at, opened-at, opened-sized}
 use Rattle.queues.specs.Openable.{Openable, openable}
 use Rattle.tags.specs.Laws.{tag-idle-in}
 use Rattle.uplink.specs.Flow.{flowOf, spareFlow}
@@ -24,7 +24,7 @@ use Rattle.uplink.specs.Opening.{newRecord, openedBy, openingRule}
 use Rattle.uplink.specs.declared.Record.{Record}
 use Rattle.shares.specs.Runs.{openingIn}
 use Rattle.shares.specs.Keep.{reset-good}
-use Rattle.shares.specs.Bridge.{Steady, tableOf, charge-idle}
+use Rattle.shares.specs.Bridge.{Steady, Zeroed, tableOf, charge-idle}
 
 -- the reply of an opening is that of its lists
 opened-reply : (reply : Reply) (shares largest lengths handles : List ℕ)
@@ -129,10 +129,11 @@ module _ (s : State) (shares largest : List ℕ) (accepted : openingIn s shares 
   accepted-steady = let A = accepted-out shares largest (s .lengths) (s .handles) accepted in
       rw (A .1) (opened-steady shares largest _ _ (A .0))
 
-  -- with both clocks at 0
-  pub accepted-clocks : let r = openingIn s shares largest .state .held in (r .clock .0 ≡ 0) × (r .link .0 ≡ 0)
+  -- with clock, link time and all tags 0
+  pub accepted-zeroed : Zeroed (openingIn s shares largest .state)
   unfolding newRecord
-  accepted-clocks = rw (accepted-out shares largest (s .lengths) (s .handles) accepted .1) (refl, refl)
+  accepted-zeroed = rw (accepted-out shares largest (s .lengths) (s .handles) accepted .1)
+      record { clock = refl; link = refl; tags = zeros-at 64 }
 
 -- a reply that is no refusal with 1 or 2
 abbrev pub Late : Reply → Type 0

@@ -11,9 +11,9 @@ use Rattle.uplink.specs.State.{State}
 use Rattle.uplink.specs.Pick.{leadOf, pickRule, chooseRule}
 use Rattle.uplink.specs.Calls.{Call, opening, arrival, pick, afterCall}
 use Rattle.shares.specs.Runs.{takeRule, Taken, Gives, NoOpening, Stretch, endOf, runOf, Carried, Restarted}
-use Rattle.shares.specs.Runs.{picked, pickedOf, leapsOf, WaitsAtPicks, NeverIdle}
+use Rattle.shares.specs.Runs.{picked, pickedOf, leapsOf, lastTag, WaitsAtPicks, NeverIdle}
 use Rattle.shares.specs.Stretches.{carried-on}
-use Rattle.shares.specs.Shares.{form-kept, clock-in-time, share, clocks}
+use Rattle.shares.specs.Shares.{form-kept, clock-in-time, share, clocks, last-tag}
 
 -- document 01's pick is one of those that take a flow of smallest tag
 pub rule-taken : (s : State) → Taken s (pickRule s)
@@ -64,3 +64,8 @@ pub rule-clocks : {s : State} → Restarted s → (calls : List Call) → NoOpen
     (r .clock .0 ≡ r .link .0 + s .held .width * leapsOf (runOf s calls))
     × (r .link .0 ≡ 720 * picked (runOf s calls))
 rule-clocks {s} r calls plain = clocks r (runOf s calls) (rule-stretch s calls plain)
+
+-- the tag of a flow with nothing waiting
+pub rule-last-tag : {s : State} → Restarted s → (calls : List Call) → NoOpening calls → NeverIdle (runOf s calls)
+    → let r = endOf s (runOf s calls) .held in (f : ℕ) → waitingOf r f ≡ 0 → tagOf r f ≡ lastTag f (runOf s calls)
+rule-last-tag {s} r calls plain = last-tag r (runOf s calls) (rule-stretch s calls plain)

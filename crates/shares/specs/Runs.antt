@@ -125,6 +125,21 @@ pickedOf f = total (chargeFor f)
 abbrev pub leapsOf : List Event → ℕ
 leapsOf = total (valueIn 4)
 
+-- the tag of flow f's last packet picked: the one that a reply tells, where it is of flow f, and else the one before
+abbrev pub tagAfter : ℕ → ℕ → Reply → ℕ
+tagAfter f before idle = before
+tagAfter f before (refused number flow) = before
+tagAfter f before (done []) = before
+tagAfter f before (done (flow ∷ rest)) = cond (eqb flow f) (getD rest 2 0) before
+
+abbrev pub lastTagFrom : ℕ → ℕ → List Event → ℕ
+lastTagFrom f before [] = before
+lastTagFrom f before (x ∷ xs) = lastTagFrom f (tagAfter f before (x .outcome .reply)) xs
+
+-- the same, "or 0"
+abbrev pub lastTag : ℕ → List Event → ℕ
+lastTag f = lastTagFrom f 0
+
 -- flow f has a packet waiting at every pick
 abbrev pub WaitsAtPicks : ℕ → State → List Event → Type 0
 WaitsAtPicks f s [] = Unit {0}

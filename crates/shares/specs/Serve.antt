@@ -25,8 +25,9 @@ use Rattle.uplink.specs.Pick.{clockLimit, frontLength, behindLength, clockLeapt
 use Rattle.shares.specs.Keep.{Sound, View, Good, Change, unchanged, change-again, front-good, leap-good, in-time}
 use Rattle.shares.specs.Keep.{serve-good}
 use Rattle.shares.specs.Bridge.{flowOf, clockOf, tableOf, viewOf, Steady, charge-waits, waits-charge, charge-some}
-use Rattle.shares.specs.Bridge.{table-sound, packet-fits}
-use Rattle.shares.specs.Put.{Put, putState, lengthIn, put-charge, put-idle, put-change, put-table, put-steady}
+use Rattle.shares.specs.Bridge.{table-sound, packet-fits, IdleTags}
+use Rattle.shares.specs.Put.{Put, putState, lengthIn, put-each, put-charge, put-idle, put-change, put-table}
+use Rattle.shares.specs.Put.{put-steady}
 use Rattle.shares.specs.Start.{MovesOn, StaysAhead, same-start, moves-then, front-start, serve-start}
 
 module _ (s : State) (f : ℕ) where
@@ -183,6 +184,14 @@ module _ (s : State) (f : ℕ) where
     pub serve-table : tableOf after ≡ tableOf s
     unfolding servedFlow
     serve-table = put-table s served S (small .counts) refl refl
+
+    -- the flow keeps its tag where nothing waits after it, and a flow that was not picked is as it was
+    pub serve-idle : (told : ℕ → ℕ) → IdleTags s told → IdleTags after (λ j. cond (eqb f j) (old .tag .0) (told j))
+    unfolding servedFlow
+    serve-idle told before = put-each s served S (small .counts)
+        (λ j x. x .queue .waiting ≡ 0 → x .tag .0 ≡ cond (eqb f j) (old .tag .0) (told j))
+        (λ e. rw (eq-eqb f f refl, le-ltb 1 (old .queue .waiting) (omega arith)))
+        λ j q. rw (ne-eqb f j λ e. q (sym e)) (before j)
 
     -- the clock goes on by the packet's link ticks at the least
     pub serve-clock-on : clockOf s + linkTicks (frontLength s f) ≤ clockAfter s f

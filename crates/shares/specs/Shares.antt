@@ -9,15 +9,15 @@ use Prim.Native.Nat.{ℕ, _+_, _*_, _≤_, _<_}
 use native.Mathlib.Omega.{arith}
 use Rattle.reply.specs.Reply.{done, refused, replyNumber}
 use Rattle.uplink.specs.Flow.{flowCost}
-use Rattle.uplink.specs.Record.{flowAt}
+use Rattle.uplink.specs.Record.{flowAt, tagOf, waitingOf}
 use Rattle.uplink.specs.State.{State, Outcome}
 use Rattle.uplink.specs.Pick.{clockLimit}
 use Rattle.uplink.specs.Calls.{Call, pick}
 use Rattle.shares.specs.Runs.{somethingWaits, Gives, Event, Stretch, endOf, Carried, Restarted, picked}
-use Rattle.shares.specs.Runs.{pickedOf, leapsOf, WaitsAtPicks, NeverIdle}
+use Rattle.shares.specs.Runs.{pickedOf, leapsOf, lastTag, WaitsAtPicks, NeverIdle}
 use Rattle.shares.specs.Bridge.{tableOf}
 use Rattle.shares.specs.Calls.{any-late, call-refused, call-in-time}
-use Rattle.shares.specs.Stretches.{carried-steady, share-stretch, restarted-zero, clocks-stretch}
+use Rattle.shares.specs.Stretches.{carried-steady, share-stretch, restarted-zeroed, clocks-stretch, last-stretch}
 
 -- The form is never lost: no carried call is refused with 1 or 2.
 pub form-kept : {s : State} → Carried s → (call : Call) (o : Outcome) → Gives s call o
@@ -48,5 +48,11 @@ share {s} c f l stretch = share-stretch (tableOf s) f l s stretch (carried-stead
 pub clocks : {s : State} → Restarted s → (stretch : List Event) → Stretch s stretch → NeverIdle stretch
     → let r = endOf s stretch .held in
     (r .clock .0 ≡ r .link .0 + s .held .width * leapsOf stretch) × (r .link .0 ≡ 720 * picked stretch)
-clocks {s} r stretch run never = let start = restarted-zero r in
-    omega (arith, start .1, start .2, clocks-stretch s stretch (start .0) run never)
+clocks {s} r stretch run never = let start = restarted-zeroed r in
+    omega (arith, start .1 .clock, start .1 .link, clocks-stretch s stretch (start .0) run never)
+
+-- "The tag of a flow with nothing waiting is that of its last packet picked, or 0": since the opening or the last Idle.
+pub last-tag : {s : State} → Restarted s → (stretch : List Event) → Stretch s stretch → NeverIdle stretch
+    → let r = endOf s stretch .held in (f : ℕ) → waitingOf r f ≡ 0 → tagOf r f ≡ lastTag f stretch
+last-tag {s} r stretch run never = let start = restarted-zeroed r in
+    last-stretch s stretch (start .0) run never (λ f. 0) (λ f _. start .1 .tags f)

@@ -16,8 +16,8 @@ use Rattle.uplink.specs.State.{State}
 use Rattle.uplink.specs.Formed.{FlowFormed}
 use Rattle.shares.specs.Keep.{Good, Change, unchanged, front-good}
 use Rattle.shares.specs.Bridge.{flowOf, clockOf, tableOf, viewOf, Steady, charge-idle, charge-waits, table-sound}
-use Rattle.shares.specs.Bridge.{packet-fits}
-use Rattle.shares.specs.Put.{Put, putState, lengthIn, put-charge, put-change, put-table, put-steady}
+use Rattle.shares.specs.Bridge.{packet-fits, IdleTags}
+use Rattle.shares.specs.Put.{Put, putState, lengthIn, put-each, put-charge, put-change, put-table, put-steady}
 use Rattle.shares.specs.Start.{StaysAhead, same-start, front-start}
 
 -- an arrival of n bytes at flow f that is taken
@@ -117,6 +117,12 @@ module _ (s : State) (f n handle : ℕ) where
     pub store-table : tableOf after ≡ tableOf s
     unfolding joinedFlow
     store-table = put-table s stored S inside refl refl
+
+    -- a flow with nothing waiting after it is as it was
+    pub store-idle : (told : ℕ → ℕ) → IdleTags s told → IdleTags after told
+    unfolding joinedFlow
+    store-idle told before = put-each s stored S inside (λ j x. x .queue .waiting ≡ 0 → x .tag .0 ≡ told j)
+        (λ e. absurd (omega arith)) λ j _. before j
 
     -- no flow's start moves that is not behind the clock
     pub store-start : (g : ℕ) → clock ≤ viewOf s .tag g

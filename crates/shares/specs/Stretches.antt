@@ -7,11 +7,12 @@ use native.Mathlib.Omega.{arith}
 use Rattle.uplink.specs.State.{State}
 use Rattle.uplink.specs.Calls.{Call, opening, arrival, pick}
 use Rattle.shares.specs.Keep.{Table, Good, in-time}
-use Rattle.shares.specs.Bridge.{flowOf, clockOf, tableOf, viewOf, Steady, charge-some, table-sound}
-use Rattle.shares.specs.Opened.{accepted-steady, accepted-clocks}
+use Rattle.shares.specs.Bridge.{flowOf, clockOf, tableOf, viewOf, IdleTags, Zeroed, Steady, charge-some}
+use Rattle.shares.specs.Bridge.{table-sound}
+use Rattle.shares.specs.Opened.{accepted-steady, accepted-zeroed}
 use Rattle.shares.specs.Runs.{Gives, Plain, Event, Stretch, endOf, Carried, opened, next, Restarted, idled}
-use Rattle.shares.specs.Runs.{picked, pickedOf, leapsOf, WaitsAtPicks, NeverIdle}
-use Rattle.shares.specs.Calls.{Counts, call-keeps, call-counts, call-silent, call-clocks, call-idle}
+use Rattle.shares.specs.Runs.{picked, pickedOf, leapsOf, tagAfter, lastTagFrom, WaitsAtPicks, NeverIdle}
+use Rattle.shares.specs.Calls.{Counts, call-keeps, call-counts, call-silent, call-clocks, call-last, call-idle}
 
 -- every carried state is steady
 pub carried-steady : {s : State} → Carried s → Steady s
@@ -77,15 +78,12 @@ module _ (X : Table) (f : ℕ) (l : f < X .size) where
             rw (silent .0, silent .1) (omega (arith, rest))
       ]
 
--- where the clocks start they are 0, and the state is steady
-pub restarted-zero : {s : State} → Restarted s → Steady s × (clockOf s ≡ 0) × (s .held .link .0 ≡ 0)
-restarted-zero (Restarted.opened s shares largest e) =
-    let zero = accepted-clocks s shares largest e in
-    (accepted-steady s shares largest e, zero .0, zero .1)
-restarted-zero (idled s o c t e) =
-    let S = carried-steady c in
-    let zero = call-idle s S pick o tt t e in
-    (call-keeps s S pick o tt t .0, zero .0, zero .1)
+-- where the clocks start they are 0, and so are the tags, and the state is steady
+pub restarted-zeroed : {s : State} → Restarted s → Steady s × Zeroed s
+restarted-zeroed (Restarted.opened s shares largest e) =
+    (accepted-steady s shares largest e, accepted-zeroed s shares largest e)
+restarted-zeroed (idled s o c t e) = let S = carried-steady c in
+    (call-keeps s S pick o tt t .0, call-idle s S pick o tt t e)
 
 -- the clocks over a stretch with no Idle in it
 pub clocks-stretch : (s : State) (xs : List Event) → Steady s → Stretch s xs → NeverIdle xs
@@ -97,3 +95,13 @@ clocks-stretch s (x ∷ xs) S run never =
     let kept = call-keeps s S (x .call) (x .outcome) (run .0) (run .1) in
     let rest = clocks-stretch (x .outcome .state) xs (kept .0) (run .2) (never .1) in
     omega (arith, clocks .link, clocks .clock, rest, ap (λ (w : ℕ). w * leapsOf xs) (clocks .width))
+
+-- the tags of the flows with nothing waiting, over a stretch with no Idle in it
+pub last-stretch : (s : State) (xs : List Event) → Steady s → Stretch s xs → NeverIdle xs
+    → (told : ℕ → ℕ) → IdleTags s told → IdleTags (endOf s xs) (λ f. lastTagFrom f (told f) xs)
+last-stretch s [] S run never told before = before
+last-stretch s (x ∷ xs) S run never told before =
+    let kept = call-keeps s S (x .call) (x .outcome) (run .0) (run .1) in
+    let last = call-last s S (x .call) (x .outcome) (run .0) (run .1) (never .0) told before in
+    last-stretch (x .outcome .state) xs (kept .0) (run .2) (never .1)
+    (λ f. tagAfter f (told f) (x .outcome .reply)) last

@@ -1,8 +1,8 @@
 -- What a well-formed record gives its callers, and what makes one: the form's Bool and its sentences say the same.
 -- `Formed` has a field for each sentence; `formed-out` and `formed-in` go between the two.
 -- Assumes nothing.
-use mathlib.Core.Path.{_≡_}
-use mathlib.Core.Bool.{Bool, true, _&&_}
+use mathlib.Core.Path.{_≡_, refl}
+use mathlib.Core.Bool.{Bool, true, false, _&&_}
 use mathlib.Core.List.{List}
 use Prim.Native.Nat.{ℕ, _^_, _≤_, _<_}
 use native.Mathlib.Omega.{arith}
@@ -17,7 +17,7 @@ use Rattle.queues.specs.Laws.{ranged-out, width-at-most, spare-out, spare-in}
 use Rattle.tags.specs.Form.{tagFormed, tagsFormed}
 use Rattle.tags.specs.Laws.{tag-at-most}
 use Rattle.uplink.specs.Flow.{Flow, noFlow, spareFlow}
-use Rattle.uplink.specs.Record.{flowAt, tagOf, waitingOf}
+use Rattle.uplink.specs.Record.{flowAt, tagOf, waitingOf, blank}
 use Rattle.uplink.specs.Form.{clockEnd, clocksFormed, restSpare, formed}
 use Rattle.uplink.specs.declared.Record.{Record}
 
@@ -121,3 +121,8 @@ spare-flow w e = let b = both-true (eqb (w .tag .0) 0) _ e in
 pub no-flow-spare : spareFlow noFlow ≡ true
 unfolding spareFlow
 no-flow-spare = spare-in
+
+-- "The blank record .. is not well formed", whatever the memory holds
+pub blank-not-formed : (lengths : List ℕ) → formed blank lengths ≡ false
+unfolding formed tabled
+blank-not-formed lengths = refl
