@@ -17,19 +17,19 @@ static uint16_t lengths[UPLINK_PLACES];
 static uint32_t handles[UPLINK_PLACES];
 static uint32_t shares[FLOWS], largest[FLOWS];
 
-/* A call that should have been done was refused: nothing was changed, and the number says why. */
+/* A call that should have been done was refused: the number says why. */
 static void must(const char *call, uint64_t answer)
 {
     if (answer == UPLINK_DONE)
         return;
-    fprintf(stderr, "%s refused: %" PRIu32 ", flow %" PRIu64 "\n", call, (uint32_t)answer, answer >> 32);
+    fprintf(stderr, "%s refused: %" PRIu32 ", flow %" PRIu32 "\n", call, uplink_number(answer), uplink_flow(answer));
     exit(1);
 }
 
 static void arrive(uint32_t flow, uint32_t handle)
 {
     must("arrival", uplink_arrival(flow, largest[flow], handle, record, UPLINK_RECORD_WORDS, lengths, UPLINK_PLACES,
-                                    handles, UPLINK_PLACES));
+                                   handles, UPLINK_PLACES));
 }
 
 int main(void)
@@ -41,7 +41,7 @@ int main(void)
         largest[f] = f == CAMERA ? 1500 : 64;
     }
     must("opening", uplink_opening(shares, FLOWS, largest, FLOWS, record, UPLINK_RECORD_WORDS, lengths, UPLINK_PLACES,
-                                    handles, UPLINK_PLACES));
+                                   handles, UPLINK_PLACES));
 
     /* The burst: every flow has packets waiting, and each that is sent is followed by another. */
     for (uint32_t f = 0; f < FLOWS; f++)
@@ -49,11 +49,11 @@ int main(void)
             arrive(f, k);
     for (uint32_t i = 0; i < PICKS; i++) {
         must("pick", uplink_pick(record, UPLINK_RECORD_WORDS, lengths, UPLINK_PLACES, handles, UPLINK_PLACES, reply,
-                                  UPLINK_REPLY_WORDS));
-        bytes[reply[0]] += reply[1];
-        all += reply[1];
-        leaps += reply[4];
-        arrive((uint32_t)reply[0], DEEP + i);
+                                 UPLINK_REPLY_WORDS));
+        bytes[reply[UPLINK_REPLY_FLOW]] += reply[UPLINK_REPLY_LENGTH];
+        all += reply[UPLINK_REPLY_LENGTH];
+        leaps += reply[UPLINK_REPLY_LEAPT];
+        arrive((uint32_t)reply[UPLINK_REPLY_FLOW], DEEP + i);
     }
 
     for (uint32_t f = 1; f < FLOWS; f++) {
