@@ -5,7 +5,6 @@
 //!   rustc -O examples/noon.rs -L target/library -l static=uplink -o target/noon-rs && target/noon-rs
 
 #[path = "../include/uplink.rs"]
-#[allow(dead_code)]
 mod uplink;
 
 use uplink::{Pick, Refusal, Uplink};
@@ -66,7 +65,7 @@ fn noon() -> Result<(), Refusal> {
 
 fn main() {
     if let Err(why) = noon() {
-        eprintln!("refused: {:?}", why);
+        eprintln!("refused with {}", why);
         std::process::exit(1);
     }
 }
