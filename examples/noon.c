@@ -1,7 +1,7 @@
 /* Noon at the gateway: a camera and sixty loggers share one link, all of them with packets waiting all the time.
  * Prints what the camera and the loggers got, beside what they booked.
  *
- * Build and run, in the repository's folder, once `tools/library` has made it:
+ * Build and run, in the repository's folder, once `tools/library` has made the library:
  *   gcc -O2 -Iinclude examples/noon.c target/library/libuplink.a -o target/noon && target/noon
  */
 #include <inttypes.h>

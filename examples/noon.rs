@@ -1,7 +1,7 @@
 //! Noon at the gateway: a camera and sixty loggers share one link, all of them with packets waiting all the time.
 //! Prints what the camera and the loggers got, beside what they booked.
 //!
-//! Build and run, in the repository's folder, once `tools/library` has made it:
+//! Build and run, in the repository's folder, once `tools/library` has made the library:
 //!   rustc -O examples/noon.rs -L target/library -l static=uplink -o target/noon-rs && target/noon-rs
 
 #[path = "../include/uplink.rs"]

@@ -48,8 +48,8 @@ abbrev memory : List ℕ → List ℕ
 memory places = places ++ replicate (4096 - length places) 0
 
 -- the record, and packets of these lengths from place 0 on, each with handle 7
-abbrev with : List ℕ → Record → State
-with lengths r = state r (memory lengths) (memory (replicate (length lengths) 7))
+abbrev given : List ℕ → Record → State
+given lengths r = state r (memory lengths) (memory (replicate (length lengths) 7))
 
 -- one flow of share 500 and largest packet 100, cost 1,440, Δ 144,000: at this clock, link time 0
 abbrev at : ℕ → ℕ → ℕ → ℕ → Record
@@ -57,7 +57,7 @@ at clock first waiting tag = holding 1 144000 clock 0 (flow 500 100 first waitin
 
 -- nothing waits in a record of these flows, and the clocks are 0
 abbrev table : ℕ → ℕ → List Flow → State
-table flows width ws = with [] (holding flows width 0 0 ws)
+table flows width ws = given [] (holding flows width 0 0 ws)
 
 -- a flow of this share and largest packet, with nothing waiting
 abbrev books : ℕ → ℕ → Flow
@@ -82,7 +82,7 @@ takes s call = row s (call ∷ []) (done [] ∷ []) []
 
 -- a packet waits, and the record is not blank: what an opening finds
 abbrev used : State
-used = with (100 ∷ []) (at 0 0 1 144000)
+used = given (100 ∷ []) (at 0 0 1 144000)
 
 -- an opening gives a record of this Δ, and "sets all 4,096 places of both memories to 0"
 abbrev opens : List ℕ → List ℕ → ℕ → Row
@@ -104,8 +104,9 @@ only a = a ∷ []
 
 -- 64 packets of 100 bytes wait
 abbrev full : State
-full = with (replicate 64 100) (at 0 0 64 144000)
+full = given (replicate 64 100) (at 0 0 64 144000)
 
+-- each bullet of the form in 01's order, then each refusal and what comes before it
 unfoldable pub limits : List Shown
 unfolding run replies
 limits =
@@ -132,35 +133,35 @@ limits =
     ∷ shown (outside (table 2 143999 (books 500 100 ∷ books 500 99 ∷ []))) refl
     ∷ shown (outside (table 2 144001 (books 500 100 ∷ books 500 99 ∷ []))) refl
     -- "first .. in range": 63 and 64
-    ∷ shown (inside (with [] (at 0 63 0 0)) idle) refl
-    ∷ shown (outside (with [] (at 0 64 0 0))) refl
+    ∷ shown (inside (given [] (at 0 63 0 0)) idle) refl
+    ∷ shown (outside (given [] (at 0 64 0 0))) refl
     -- "number waiting in range": 64 and 65
     ∷ shown (inside full (packet 0 100 7 144000 false 72000)) refl
-    ∷ shown (outside (with (replicate 64 100) (at 0 0 65 144000))) refl
+    ∷ shown (outside (given (replicate 64 100) (at 0 0 65 144000))) refl
     -- "every waiting length from 1 to the flow's largest": 0, 1, largest, one more
-    ∷ shown (outside (with (0 ∷ []) (at 0 0 1 144000))) refl
-    ∷ shown (inside (with (1 ∷ []) (at 0 0 1 144000)) (packet 0 1 7 144000 false 720)) refl
-    ∷ shown (inside (with (100 ∷ []) (at 0 0 1 144000)) (packet 0 100 7 144000 false 72000)) refl
-    ∷ shown (outside (with (101 ∷ []) (at 0 0 1 144000))) refl
+    ∷ shown (outside (given (0 ∷ []) (at 0 0 1 144000))) refl
+    ∷ shown (inside (given (1 ∷ []) (at 0 0 1 144000)) (packet 0 1 7 144000 false 720)) refl
+    ∷ shown (inside (given (100 ∷ []) (at 0 0 1 144000)) (packet 0 100 7 144000 false 72000)) refl
+    ∷ shown (outside (given (101 ∷ []) (at 0 0 1 144000))) refl
     -- the k-th packet "is at 64 × f + ((first + k) mod 64)": from place 63 to place 0, and no other place is looked at
-    ∷ shown (inside (with (50 ∷ replicate 62 101 ++ 100 ∷ 101 ∷ []) (at 0 63 2 144000))
+    ∷ shown (inside (given (50 ∷ replicate 62 101 ++ 100 ∷ 101 ∷ []) (at 0 63 2 144000))
     (packet 0 100 7 144000 false 72000)) refl
-    ∷ shown (outside (with (101 ∷ replicate 62 101 ++ 100 ∷ 101 ∷ []) (at 0 63 2 144000))) refl
+    ∷ shown (outside (given (101 ∷ replicate 62 101 ++ 100 ∷ 101 ∷ []) (at 0 63 2 144000))) refl
     -- "a waiting flow's tag is at least the clock and at most clock + 3Δ": clock − 1, clock, clock + 3Δ, one more
-    ∷ shown (outside (with (100 ∷ []) (at 1000000 0 1 999999))) refl
-    ∷ shown (inside (with (100 ∷ []) (at 1000000 0 1 1000000)) (packet 0 100 7 1000000 false 1072000)) refl
-    ∷ shown (inside (with (100 ∷ []) (at 1000000 0 1 1432000)) (packet 0 100 7 1432000 true 1216000)) refl
-    ∷ shown (outside (with (100 ∷ []) (at 1000000 0 1 1432001))) refl
+    ∷ shown (outside (given (100 ∷ []) (at 1000000 0 1 999999))) refl
+    ∷ shown (inside (given (100 ∷ []) (at 1000000 0 1 1000000)) (packet 0 100 7 1000000 false 1072000)) refl
+    ∷ shown (inside (given (100 ∷ []) (at 1000000 0 1 1432000)) (packet 0 100 7 1432000 true 1216000)) refl
+    ∷ shown (outside (given (100 ∷ []) (at 1000000 0 1 1432001))) refl
     -- "any other flow's tag is at most clock + 2Δ": clock + 2Δ and one more, and below the clock
-    ∷ shown (inside (with [] (at 1000000 0 0 1288000)) idle) refl
-    ∷ shown (outside (with [] (at 1000000 0 0 1288001))) refl
-    ∷ shown (inside (with [] (at 1000000 0 0 0)) idle) refl
+    ∷ shown (inside (given [] (at 1000000 0 0 1288000)) idle) refl
+    ∷ shown (outside (given [] (at 1000000 0 0 1288001))) refl
+    ∷ shown (inside (given [] (at 1000000 0 0 0)) idle) refl
     -- "link time is at most the clock": at the clock and one more
-    ∷ shown (inside (with [] (holding 1 144000 1000000 1000000 (books 500 100 ∷ []))) idle) refl
-    ∷ shown (outside (with [] (holding 1 144000 1000000 1000001 (books 500 100 ∷ [])))) refl
+    ∷ shown (inside (given [] (holding 1 144000 1000000 1000000 (books 500 100 ∷ []))) idle) refl
+    ∷ shown (outside (given [] (holding 1 144000 1000000 1000001 (books 500 100 ∷ [])))) refl
     -- "the clock is below 2^62 + 1,081,080,000": one below its end and at it
-    ∷ shown (inside (with [] (at (2 ^ 62 + 1081079999) 0 0 0)) idle) refl
-    ∷ shown (outside (with [] (at (2 ^ 62 + 1081080000) 0 0 0))) refl
+    ∷ shown (inside (given [] (at (2 ^ 62 + 1081079999) 0 0 0)) idle) refl
+    ∷ shown (outside (given [] (at (2 ^ 62 + 1081080000) 0 0 0))) refl
     -- "all fields of flows beyond the number of flows are 0": each of them 1, in the flow past the last and in flow 63
     ∷ shown (outside (table 1 144000 (books 500 100 ∷ flow 1 0 0 0 0 ∷ []))) refl
     ∷ shown (outside (table 1 144000 (books 500 100 ∷ flow 0 1 0 0 0 ∷ []))) refl
@@ -214,18 +215,18 @@ limits =
     ∷ shown (refuses used (arrival 0 0 7) 8) refl
     ∷ shown (refuses used (arrival 0 101 7) 8) refl
     -- 9: "64 packets already wait in that flow"; 8 before 9: and the length is 0
-    ∷ shown (takes (with (replicate 63 100) (at 0 0 63 144000)) (arrival 0 100 7)) refl
+    ∷ shown (takes (given (replicate 63 100) (at 0 0 63 144000)) (arrival 0 100 7)) refl
     ∷ shown (refuses full (arrival 0 100 7) 9) refl
     ∷ shown (refuses full (arrival 0 0 7) 8) refl
     -- 10: "something waits and the clock is 2^62 or more": 2^62 − 1 and 2^62
-    ∷ shown (inside (with (100 ∷ []) (at (2 ^ 62 - 1) 0 1 (2 ^ 62))) (packet 0 100 7 (2 ^ 62) false (2 ^ 62 + 71999)))
+    ∷ shown (inside (given (100 ∷ []) (at (2 ^ 62 - 1) 0 1 (2 ^ 62))) (packet 0 100 7 (2 ^ 62) false (2 ^ 62 + 71999)))
     refl
-    ∷ shown (refuses (with (100 ∷ []) (at (2 ^ 62) 0 1 (2 ^ 62))) pick 10) refl
+    ∷ shown (refuses (given (100 ∷ []) (at (2 ^ 62) 0 1 (2 ^ 62))) pick 10) refl
     -- Idle before 10: nothing waits at 2^62 − 1 and at 2^62
-    ∷ shown (row (with [] (at (2 ^ 62 - 1) 0 0 0)) (pick ∷ []) (idle ∷ []) (clockIs 0 ∷ [])) refl
-    ∷ shown (row (with [] (at (2 ^ 62) 0 0 0)) (pick ∷ []) (idle ∷ []) (clockIs 0 ∷ [])) refl
+    ∷ shown (row (given [] (at (2 ^ 62 - 1) 0 0 0)) (pick ∷ []) (idle ∷ []) (clockIs 0 ∷ [])) refl
+    ∷ shown (row (given [] (at (2 ^ 62) 0 0 0)) (pick ∷ []) (idle ∷ []) (clockIs 0 ∷ [])) refl
     -- and an arrival knows no 10
-    ∷ shown (takes (with [] (at (2 ^ 62) 0 0 0)) (arrival 0 100 7)) refl
+    ∷ shown (takes (given [] (at (2 ^ 62) 0 0 0)) (arrival 0 100 7)) refl
     ∷ []
 
 -- every limit is where document 01 has it
