@@ -1,6 +1,6 @@
 -- Document 01's proved examples and limits, and the schedulers that it wants rejected.
--- `Script`: lists of calls. `Examples`: the calls of document 01's examples, and states on the way. `Row`: what a row is.
--- `Rows`: P1 to P12. `Limits`: each limit and each order of refusals, on both sides.
+-- `Script`: lists of calls. `Examples`: the calls of document 01's examples, and states on the way.
+-- `Row`: what a row is. `Rows`: P1 to P12. `Limits`: each limit and each order of refusals, on both sides.
 -- `Altered`: the rules' own outcomes with one thing changed. `StandIns`, `Slips`: where each wrong scheduler leaves the
 -- rules.
 pub mod Script

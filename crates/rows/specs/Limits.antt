@@ -1,5 +1,5 @@
--- Document 01's numbers on both sides: each bullet of the form, each refusal, and the order of refusals. The numbers are
--- 01's own, written out, so that a limit cannot be moved in a definition and in the code alone.
+-- Document 01's numbers on both sides: each bullet of the form, each refusal, and the order of refusals. The numbers
+-- are 01's own, written out, so that a limit cannot be moved by a definition and the code together.
 -- Assumes nothing.
 use mathlib.Core.Path.{_≡_, refl}
 use mathlib.Core.Bool.{true, false}

@@ -26,7 +26,8 @@ rows =
     -- P2: "first pick from P1 is flow 0, clock 72,000."
     ∷ shown (row bothWait (picks 1) (packet 0 100 7 144000 false 72000 ∷ []) (clockIs 72000 ∷ [])) refl
     -- P3: "the second is flow 1, clock 144,000, equal to its tag."
-    ∷ shown (row flow1Waits (picks 1) (packet 1 100 8 144000 false 144000 ∷ []) (clockIs 144000 ∷ tagIs 1 144000 ∷ [])) refl
+    ∷ shown (row flow1Waits (picks 1) (packet 1 100 8 144000 false 144000 ∷ [])
+    (clockIs 144000 ∷ tagIs 1 144000 ∷ [])) refl
     -- P4: "a third pick is Idle, clock 0."
     ∷ shown (row noneWaits (picks 1) (idle ∷ []) (clockIs 0 ∷ [])) refl
     -- "After a fresh opening, four packets of 100 at flow 0 alone. Tags 144,000, 288,000, 432,000, 576,000."

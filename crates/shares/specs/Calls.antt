@@ -25,7 +25,8 @@ use Rattle.uplink.specs.Calls.{Call, opening, arrival, pick}
 use Rattle.shares.specs.Start.{MovesOn}
 use Rattle.shares.specs.Bridge.{flowOf, clockOf, tableOf, viewOf, IdleTags, Zeroed, Steady}
 use Rattle.shares.specs.Store.{Joins, store-steady, store-table, store-idle, store-start}
-use Rattle.shares.specs.Serve.{serve-in-time, serve-steady, serve-table, serve-idle, serve-clock-on, serve-moves}
+use Rattle.shares.specs.Serve.{serve-in-time, serve-steady, serve-table, serve-idle, serve-clock-on}
+use Rattle.shares.specs.Serve.{serve-moves}
 use Rattle.shares.specs.Idle.{Nobody, idle-steady, idle-zeroed, idle-table}
 use Rattle.shares.specs.Runs.{somethingWaits, takeRule, Taken, Gives, Plain, chargeIn, chargeFor, valueIn, tagAfter}
 use Rattle.shares.specs.Opened.{Late, opening-late}

@@ -87,7 +87,8 @@ module _ (s : State) (p : Put) where
     put-at = put-here r f w rows (omega (arith, S .form .few))
 
     -- what holds of flow f, and held of every other, holds of each
-    pub put-each : (P : ℕ → Flow → Type 0) → P f w → ((j : ℕ) → j ≢ f → P j (flowOf s j)) → (j : ℕ) → P j (flowOf next j)
+    pub put-each : (P : ℕ → Flow → Type 0) → P f w → ((j : ℕ) → j ≢ f → P j (flowOf s j))
+        → (j : ℕ) → P j (flowOf next j)
     put-each P here else j = elim (ℕ-discrete j f) as (λ _. P j (flowOf next j)) [
       | yes q ↦ rw (q, put-at) here
       | no q ↦ rw (put-else r f j w q) (else j q)
