@@ -138,6 +138,16 @@ uint32_t uplink_pick(uint64_t *record, size_t record_words,
  * what stands in the record; the blank record has no flow. Order of refusals: 101, 102, 7. */
 uint32_t uplink_depth(uint32_t flow, const uint64_t *record, size_t record_words, uint64_t *reply, size_t reply_words);
 
+#define UPLINK_DEPTH_WORDS 4
+
+/* How many packets wait in `flow`, so that a gateway can push back. The record is only looked at, and its form is not
+ * tested. Where the answer is UPLINK_DONE, reply holds the number of packets that wait in the flow, its share, its
+ * largest packet and its tag, in this order; with any other answer no word of reply changes.
+ * A flow of 64 or more is no such flow, whatever number of flows the record holds.
+ * Order of refusals: 101, 102 (reply has not exactly UPLINK_DEPTH_WORDS words), 7. */
+uint32_t uplink_depth(uint32_t flow, const uint64_t *record, size_t record_words,
+                       uint64_t *reply, size_t reply_words);
+
 #ifdef __cplusplus
 }
 #endif

@@ -1,12 +1,13 @@
--- How a block is read and written, word by word.
+-- How a block and a reply are read and written, word by word.
 -- Assumes nothing.
 use mathlib.Core.Path.{_≡_, refl, sym, ap, ap₂, _∙_}
 use mathlib.Core.Bool.{Bool, true, false, cond}
 use mathlib.Core.List.{List, [], _∷_, _++_, append-assoc, append-nil}
-use Prim.Native.Nat.{ℕ, _+_, _*_, _/_, _%_, _^_, _≤_, _<_}
+use Prim.Native.Nat.{ℕ, zero, suc, _+_, _*_, _/_, _%_, _^_, _≤_, _<_}
+use native.Mathlib.Nat.{zero-add}
 use native.Mathlib.Omega.{arith}
 use lib.ListN.{length, getD, set, drop, replicate, length-append, length-drop}
-use lib.Seq.{take-at, drop-at, drop-drop, drop-length}
+use lib.Seq.{take-at, drop-at, drop-drop, drop-length, getD-take, getD-drop, sets, sets-eq}
 use mir.Val.{boolByte}
 use borrow.Rule.Slice.PartMut.{putMid}
 use Rattle.below.specs.Copied.{Copied, copied-more}
@@ -16,10 +17,11 @@ use Rattle.queues.specs.Opening.{field64}
 use Rattle.queues.specs.Laws.{field-length}
 use Rattle.tags.specs.Ticks.{ticks}
 use Rattle.tags.specs.declared.ServerTicks.{ServerTicks}
-use Rattle.uplink.specs.Record.{tagOf, linkTime, tagsOf}
+use Rattle.uplink.specs.Record.{flowAt, tagOf, linkTime, tagsOf}
 use Rattle.uplink.specs.declared.Record.{Record}
-use Rattle.gateway.specs.Image.{fourAt, fieldWords, fieldIn, part, wordsOf, recordOf}
-use Rattle.gateway.specs.Images.{in-length, entry, words-length}
+use Rattle.gateway.specs.Image.{fourAt, fieldWords, quarter, fieldIn, part, wordsOf, recordOf}
+use Rattle.gateway.specs.Images.{in-length, entry-at, entry, words-length}
+use Rattle.gateway.specs.Depth.{depthOf}
 use Rattle.gateway.specs.Step.{stepWords}
 
 -- one entry more, its number and its value told by equations
@@ -159,26 +161,44 @@ module _ (w0 : List ℕ) (long : length w0 ≡ 131) (r : Record) where
                 ∙ append-nil (head ++ tags ++ share ++ largest ++ first ++ waiting)
                 ∙ ap (λ rest. head ++ rest) (regroup tags share largest first waiting) ∙ rw (t, s, l, f, w)
 
--- six stores make a list of six
-six : (l : List ℕ) (a b c d e f : ℕ) → length l ≡ 6
-    → set (set (set (set (set (set l 0 a) 1 b) 2 c) 3 d) 4 e) 5 f ≡ a ∷ b ∷ c ∷ d ∷ e ∷ f ∷ []
-six [] a b c d e f h = absurd (omega arith)
-six (_ ∷ []) a b c d e f h = absurd (omega arith)
-six (_ ∷ _ ∷ []) a b c d e f h = absurd (omega arith)
-six (_ ∷ _ ∷ _ ∷ []) a b c d e f h = absurd (omega arith)
-six (_ ∷ _ ∷ _ ∷ _ ∷ []) a b c d e f h = absurd (omega arith)
-six (_ ∷ _ ∷ _ ∷ _ ∷ _ ∷ []) a b c d e f h = absurd (omega arith)
-six (_ ∷ _ ∷ _ ∷ _ ∷ _ ∷ _ ∷ []) a b c d e f h = refl
-six (_ ∷ _ ∷ _ ∷ _ ∷ _ ∷ _ ∷ _ ∷ l) a b c d e f h = absurd (omega arith)
+-- the entry of a word of 64 bits, by a shift
+shifted : (word j : ℕ) → word < 2 ^ 64 → j < 4 → word / 2 ^ (16 * j) % 2 ^ 16 ≡ quarter word j
+shifted word zero h l = omega arith
+shifted word (suc zero) h l = refl
+shifted word (suc (suc zero)) h l = refl
+shifted word (suc (suc (suc zero))) h l = omega (arith, h)
+shifted word (suc (suc (suc (suc j)))) h l = absurd (omega arith)
+
+-- and so an entry of a field
+pub entry-read : (words : List ℕ) (f : ℕ) → f < 64 → getD words (f / 4) 0 < 2 ^ 64
+    → getD words (f / 4) 0 / 2 ^ (16 * (f % 4)) % 2 ^ 16 ≡ getD (fieldIn words) f 0
+entry-read words f h fits =
+    shifted (getD words (f / 4) 0) (f % 4) fits (omega arith) ∙ sym (entry-at words f h)
+
+-- a store at each place of a list, from the first to the last
+stored : (l vs : List ℕ) → length l ≡ length vs → sets l 0 vs ≡ vs
+stored l vs h =
+    sets-eq vs l 0 (omega (arith, h)) ∙ rw (zero-add, ← h, drop-length) (append-nil vs)
 
 as-number : (b : Bool) → boolByte b ≡ cond b 1 0
 as-number true = refl
 as-number false = refl
 
--- and so a reply
+-- the reply of a pick
 pub packet-written : (reply : List ℕ) (flow bytes handle tag clock : ℕ) (leapt : Bool) → length reply ≡ 6
     → done (set (set (set (set (set (set reply 0 flow) 1 bytes) 2 handle) 3 tag) 4 (boolByte leapt)) 5 clock)
     ≡ packet flow bytes handle tag leapt clock
 packet-written reply flow bytes handle tag clock leapt h =
-    ap done (six reply flow bytes handle tag (boolByte leapt) clock h
+    ap done (stored reply (flow ∷ bytes ∷ handle ∷ tag ∷ boolByte leapt ∷ clock ∷ []) h
     ∙ ap (λ n. flow ∷ bytes ∷ handle ∷ tag ∷ n ∷ clock ∷ []) (as-number leapt))
+
+-- the reply of a depth
+pub depth-written : (block reply : List ℕ) (f waiting share largest : ℕ) → length reply ≡ 4 → f < 64
+    → waiting ≡ getD (fieldIn (part block 115 16)) f 0 → share ≡ getD (fieldIn (part block 67 16)) f 0
+    → largest ≡ getD (fieldIn (part block 83 16)) f 0
+    → done (set (set (set (set reply 0 waiting) 1 share) 2 largest) 3 (getD block (3 + f) 0))
+    ≡ depthOf (flowAt (recordOf block) f)
+unfolding recordOf
+depth-written block reply f waiting share largest h below w s l =
+    ap done (stored reply (waiting ∷ share ∷ largest ∷ getD block (3 + f) 0 ∷ []) h)
+    ∙ rw (w, s, l, getD-take 64 (drop 3 block) f 0 below, getD-drop 3 block f 0)

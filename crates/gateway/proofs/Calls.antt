@@ -1,11 +1,12 @@
 -- What each way through an exported call gives, as its definition has it.
 -- Assumes nothing.
 use mathlib.Core.Path.{_≡_, refl, sym, ap, _∙_}
-use mathlib.Core.Bool.{Bool}
+use mathlib.Core.Bool.{Bool, and-false}
+use mathlib.Core.Logic.{_⊎_, inl, inr}
 use mathlib.Core.List.{List, []}
-use Prim.Native.Nat.{ℕ, _+_, _*_, _%_, _^_}
-use lib.ListN.{length}
-use borrow.Author.Tests.{eq-eqb, ne-eqb}
+use Prim.Native.Nat.{ℕ, _+_, _*_, _%_, _^_, _≤_, _<_}
+use lib.ListN.{length, getD}
+use borrow.Author.Tests.{eq-eqb, ne-eqb, lt-ltb, le-ltb}
 use borrow.Rule.Slice.PartMut.{putMid}
 use Rattle.reply.specs.Reply.{Reply, idle, done, refused, refusal, packet, replyNumber, replyFlow}
 use Rattle.reply.specs.Reply.{openingReply, arrivalReply}
@@ -13,20 +14,22 @@ use Rattle.reply.specs.Replies.{told, idle-done, idle-refused}
 use Rattle.reply.specs.declared.ArrivalReply.{ArrivalReply}
 use Rattle.reply.specs.declared.OpeningReply.{OpeningReply}
 use Rattle.reply.specs.declared.Refusal.{Refusal}
-use Rattle.queues.specs.Opening.{field64, listsReply}
+use Rattle.queues.specs.Opening.{field64}
 use Rattle.tags.specs.declared.ServerTicks.{ServerTicks}
 use Rattle.uplink.specs.PickReply.{pickReply}
-use Rattle.uplink.specs.State.{State, Outcome, state, outcome}
-use Rattle.uplink.specs.Opening.{openedBy, openingRule}
+use Rattle.uplink.specs.Record.{flowAt}
+use Rattle.uplink.specs.State.{Outcome, state, outcome}
+use Rattle.uplink.specs.Opening.{openingRule}
 use Rattle.uplink.specs.Arrival.{arrivalRule}
 use Rattle.uplink.specs.Pick.{pickRule}
 use Rattle.uplink.specs.declared.PickReply.{PickReply}
 use Rattle.uplink.specs.declared.Record.{Record}
 use Rattle.gateway.specs.Image.{wordsOf, recordOf}
 use Rattle.gateway.specs.Images.{words-of-record, rows-read}
+use Rattle.gateway.specs.Depth.{depthOf, depthReply}
 use Rattle.gateway.specs.Gateway as gateway
-use Rattle.gateway.specs.Gateway.{lending, answered, numberOf, withFlow}
-use Rattle.gateway.specs.Gateway.{gatewayOpening, gatewayArrival, gatewayPick}
+use Rattle.gateway.specs.Gateway.{lending, answered, numberOf, withFlow, valuesOr}
+use Rattle.gateway.specs.Gateway.{gatewayOpening, gatewayArrival, gatewayPick, gatewayDepth}
 use Rattle.gateway.specs.Step.{stepWords, flowIn}
 use Rattle.gateway.proofs.Stepping.{step-whole, step-rested}
 use Rattle.gateway.proofs.Following.{Follows, arrival-follows, pick-follows}
@@ -35,45 +38,30 @@ use Rattle.gateway.proofs.Following.{Follows, arrival-follows, pick-fol
 number-told : (why : Refusal) → replyNumber (refusal why) ≡ numberOf (refusal why)
 number-told why = rw (told why .says)
 
--- an outcome as it is told to the caller
-module _ (tell : Reply → ℕ) (lent : gateway.Lent) (next : Record) (lengths handles : List ℕ) (o : Outcome) where
-  -- refused: what is lent is as it came
-  refused-told : (why : Refusal) → outcome (refusal why) next lengths handles ≡ o
-      → answered (tell (refusal why)) lent ≡ gateway.told tell o lent
-  unfolding gateway.told
-  refused-told why e = rw (← e, told why .says)
+-- and it leaves the words of the reply
+values-kept : (why : Refusal) (words : List ℕ) → words ≡ valuesOr (refusal why) words
+values-kept why words = rw (told why .says)
 
-  done-told : (values block : List ℕ) → outcome (done values) next lengths handles ≡ o → block ≡ wordsOf next
-      → answered (tell (done values)) (lending block lengths handles values) ≡ gateway.told tell o lent
-  unfolding gateway.told
-  done-told values block e b = rw (← e, b)
-
-  idle-told : (block : List ℕ) → outcome idle next lengths handles ≡ o → block ≡ wordsOf next
-      → answered (tell idle) (lending block lengths handles (lent .reply)) ≡ gateway.told tell o lent
-  unfolding gateway.told
-  idle-told block e b = rw (← e, b)
+-- an outcome as it is told to the caller, its answer, the block and the words of the reply by equations
+outcome-told : (tell : Reply → ℕ) (lent : gateway.Lent) (reply : Reply) (next : Record) (lengths handles : List ℕ)
+    (o : Outcome) → outcome reply next lengths handles ≡ o → (answer : ℕ) (block words : List ℕ) → answer ≡ tell reply
+    → block ≡ wordsOf next → words ≡ valuesOr reply (lent .reply)
+    → answered answer (lending block lengths handles words) ≡ gateway.told tell o lent
+unfolding gateway.told
+outcome-told tell lent reply next lengths handles o e answer block words a b w = rw (← e, a, b, w)
 
 -- what an outcome leaves in a block of 131 words
 module _ (block lengths handles : List ℕ) (h : length block ≡ 131) (at : Reply → ℕ) (reply : Reply) (next : Record)
     (lengths' handles' : List ℕ)
     (F : Follows (state (recordOf block) lengths handles) at (outcome reply next lengths' handles')) where
-  -- done: the block of the next record
-  block-done : (reply ≡ idle → ⊥) → stepWords block next (at reply) ≡ wordsOf next
-  block-done busy = step-whole block next (at reply) h (F .kept) (F .tags busy)
+  -- the block of the next record
+  block-busy : (reply ≡ idle → ⊥) → stepWords block next (at reply) ≡ wordsOf next
+  block-busy busy = step-whole block next (at reply) h (F .kept) (F .tags busy)
 
   -- idle: the same, with the tags written
   block-idle : (tags : List ℕ) → tags ≡ field64 (next .tags .0)
       → putMid 3 64 (stepWords block next (at reply)) tags ≡ wordsOf next
   block-idle tags t = step-rested block tags next (at reply) h (F .kept) t
-
-  -- refused: the block and the memories as they came
-  block-refused : (number flow : ℕ) → reply ≡ refused number flow
-      → (stepWords block next (at reply) ≡ block) × (lengths' ≡ lengths) × (handles' ≡ handles)
-  block-refused number flow e = let same = F .same number flow e in (
-    block-done (λ z. idle-refused (sym z ∙ e)) ∙ ap (λ (s : State). wordsOf (s .held)) same ∙ words-of-record block h,
-    ap (λ (s : State). s .lengths) same,
-    ap (λ (s : State). s .handles) same,
-  )
 
 module _ (shares largest block lengths handles : List ℕ) where
   pub opening-unblocked : (length block ≡ 131 → ⊥)
@@ -82,45 +70,27 @@ module _ (shares largest block lengths handles : List ℕ) where
   unfolding gatewayOpening
   opening-unblocked h = rw (ne-eqb (length block) 131 h)
 
-  abbrev by : Reply → Outcome
-  by reply = openedBy reply shares largest lengths handles
-
-  by-reply : (reply : Reply) → by reply .reply ≡ reply
-  by-reply idle = refl
-  by-reply (done values) = refl
-  by-reply (refused number flow) = refl
-
-  module _ (lengths' handles' : List ℕ) (reply : OpeningReply) (next : Record) (h : length block ≡ 131)
-      (e : outcome (openingReply reply) next lengths' handles' ≡ openingRule shares largest lengths handles) where
-    pub opening-refused : (why : Refusal) (number flow : ℕ) → reply ≡ OpeningReply.Refused why
-        → number ≡ replyNumber (refusal why) → flow ≡ replyFlow (refusal why)
-        → answered (number + 2 ^ 32 * flow) (lending block lengths' handles' [])
-        ≡ gatewayOpening shares largest (lending block lengths handles [])
-    unfolding gatewayOpening openingRule
-    opening-refused why number flow q n f =
-        let t = told why in
-        let given : listsReply shares largest lengths handles ≡ refused (t .number) (t .flow)
-        = sym (by-reply (listsReply shares largest lengths handles)) ∙ sym (ap (λ (o : Outcome). o .reply) e)
-        ∙ ap openingReply q ∙ t .says in
-        let m = ap (λ (o : Outcome). o .state) e ∙ ap (λ reply. by reply .state) given in
-        rw (
-          ap (λ (s : State). s .lengths) m,
-          ap (λ (s : State). s .handles) m,
-          eq-eqb (length block) 131 h,
-          n,
-          f,
-          number-told why,
-        )
-        (refused-told withFlow _ next lengths' handles' _ why
-        (ap (λ (a : OpeningReply). outcome (openingReply a) next lengths' handles') (sym q) ∙ e))
-
-    pub opening-done : (block' : List ℕ) → reply ≡ OpeningReply.Done → block' ≡ wordsOf next
-        → answered 0 (lending block' lengths' handles' [])
+  module _ (block' lengths' handles' : List ℕ) (reply : OpeningReply) (next : Record) (h : length block ≡ 131)
+      (e : outcome (openingReply reply) next lengths' handles' ≡ openingRule shares largest lengths handles)
+      (b : block' ≡ wordsOf next) where
+    opening-told : (answer : ℕ) → answer ≡ withFlow (openingReply reply) → [] ≡ valuesOr (openingReply reply) []
+        → answered answer (lending block' lengths' handles' [])
         ≡ gatewayOpening shares largest (lending block lengths handles [])
     unfolding gatewayOpening
-    opening-done block' q b = rw (eq-eqb (length block) 131 h)
-        (done-told withFlow _ next lengths' handles' _ [] block'
-        (ap (λ (a : OpeningReply). outcome (openingReply a) next lengths' handles') (sym q) ∙ e) b)
+    opening-told answer a w = rw (eq-eqb (length block) 131 h)
+        (outcome-told withFlow (lending block lengths handles []) _ next lengths' handles' _ e answer block' [] a b w)
+
+    pub opening-refused : (why : Refusal) (number flow : ℕ) → reply ≡ OpeningReply.Refused why
+        → number ≡ replyNumber (refusal why) → flow ≡ replyFlow (refusal why)
+        → answered (number + 2 ^ 32 * flow) (lending block' lengths' handles' [])
+        ≡ gatewayOpening shares largest (lending block lengths handles [])
+    opening-refused why number flow q n f =
+        opening-told _ (rw (q, n, f, number-told why)) (rw q (values-kept why []))
+
+    pub opening-done : reply ≡ OpeningReply.Done
+        → answered 0 (lending block' lengths' handles' [])
+        ≡ gatewayOpening shares largest (lending block lengths handles [])
+    opening-done q = opening-told 0 (rw q) (rw q)
 
 module _ (flow bytes handle : ℕ) (block lengths handles : List ℕ) where
   pub arrival-unblocked : (length block ≡ 131 → ⊥)
@@ -138,28 +108,28 @@ module _ (flow bytes handle : ℕ) (block lengths handles : List ℕ) where
         (outcome (arrivalReply reply) next lengths' handles')
     follows = rw (e, r) (arrival-follows (state (recordOf block) lengths handles) (rows-read block h) flow bytes handle)
 
+    arrival-told : (answer : ℕ) → answer ≡ numberOf (arrivalReply reply) → [] ≡ valuesOr (arrivalReply reply) []
+        → (arrivalReply reply ≡ idle → ⊥)
+        → answered answer (lending block' lengths' handles' [])
+        ≡ gatewayArrival flow bytes handle (lending block lengths handles [])
+    unfolding gatewayArrival
+    arrival-told answer a w busy = rw (eq-eqb (length block) 131 h, ← r)
+        (outcome-told numberOf (lending block lengths handles []) _ next lengths' handles' _ e answer block' [] a
+        (b ∙ block-busy block lengths handles h (λ _. flow % 64) (arrivalReply reply) next lengths' handles' follows
+        busy) w)
+
     pub arrival-refused : (why : Refusal) (number : ℕ) → reply ≡ ArrivalReply.Refused why
         → number ≡ replyNumber (refusal why)
         → answered number (lending block' lengths' handles' [])
         ≡ gatewayArrival flow bytes handle (lending block lengths handles [])
-    unfolding gatewayArrival
     arrival-refused why number q n =
-        let s = block-refused block lengths handles h (λ _. flow % 64)
-        (arrivalReply reply) next lengths' handles' follows
-        (told why .number) (told why .flow) (ap arrivalReply q ∙ told why .says) in
-        rw (b, s .0, s .1, s .2, eq-eqb (length block) 131 h, n, number-told why, ← r)
-        (refused-told numberOf _ next lengths' handles' _ why
-        (ap (λ (a : ArrivalReply). outcome (arrivalReply a) next lengths' handles') (sym q) ∙ e))
+        arrival-told number (rw (q, n, number-told why)) (rw q (values-kept why []))
+        (λ z. idle-refused (sym z ∙ ap arrivalReply q ∙ told why .says))
 
     pub arrival-done : reply ≡ ArrivalReply.Done
         → answered 0 (lending block' lengths' handles' [])
         ≡ gatewayArrival flow bytes handle (lending block lengths handles [])
-    unfolding gatewayArrival
-    arrival-done q = rw (eq-eqb (length block) 131 h, ← r)
-        (done-told numberOf _ next lengths' handles' _ [] block'
-        (ap (λ (a : ArrivalReply). outcome (arrivalReply a) next lengths' handles') (sym q) ∙ e)
-        (b ∙ block-done block lengths handles h (λ _. flow % 64) (arrivalReply reply) next lengths' handles' follows
-        (λ z. idle-done (sym z ∙ ap arrivalReply q))))
+    arrival-done q = arrival-told 0 (rw q) (rw q) (λ z. idle-done (sym z ∙ ap arrivalReply q))
 
 module _ (block lengths handles reply : List ℕ) where
   pub pick-unblocked : (length block ≡ 131 → ⊥)
@@ -181,37 +151,75 @@ module _ (block lengths handles reply : List ℕ) where
         (outcome (pickReply answer) next lengths' handles')
     pick-followed = rw (e, r) (pick-follows (state (recordOf block) lengths handles) (rows-read block h))
 
-    abbrev told-as : Reply → Outcome
-    told-as a = outcome a next lengths' handles'
+    pick-told : (number : ℕ) (words reply' : List ℕ) → number ≡ numberOf (pickReply answer) → words ≡ wordsOf next
+        → reply' ≡ valuesOr (pickReply answer) reply
+        → answered number (lending words lengths' handles' reply') ≡ gatewayPick (lending block lengths handles reply)
+    unfolding gatewayPick
+    pick-told number words reply' n b w = rw (eq-eqb (length block) 131 h, eq-eqb (length reply) 6 k, ← r)
+        (outcome-told numberOf (lending block lengths handles reply) _ next lengths' handles' _ e number words reply'
+        n b w)
+
+    pick-busy : (pickReply answer ≡ idle → ⊥) → block' ≡ wordsOf next
+    pick-busy busy = rw (b, g)
+        (block-busy block lengths handles h flowIn (pickReply answer) next lengths' handles' pick-followed busy)
 
     pub pick-refused : (why : Refusal) (number : ℕ) → answer ≡ PickReply.Refused why
         → number ≡ replyNumber (refusal why)
         → answered number (lending block' lengths' handles' reply) ≡ gatewayPick (lending block lengths handles reply)
-    unfolding gatewayPick
     pick-refused why number q n =
-        let s = block-refused block lengths handles h flowIn (pickReply answer) next lengths' handles' pick-followed
-        (told why .number) (told why .flow) (ap pickReply q ∙ told why .says) in
-        rw (b, g, s .0, s .1, s .2, eq-eqb (length block) 131 h, eq-eqb (length reply) 6 k, n, number-told why, ← r)
-        (refused-told numberOf _ next lengths' handles' _ why (ap told-as (ap pickReply (sym q)) ∙ e))
+        pick-told number block' reply (rw (q, n, number-told why))
+        (pick-busy (λ z. idle-refused (sym z ∙ ap pickReply q ∙ told why .says))) (rw q (values-kept why reply))
 
     pub pick-idle : (tags : List ℕ) → answer ≡ PickReply.Idle → tags ≡ field64 (next .tags .0)
         → answered 100 (lending (putMid 3 64 block' tags) lengths' handles' reply)
         ≡ gatewayPick (lending block lengths handles reply)
-    unfolding gatewayPick
-    pick-idle tags q t = rw (eq-eqb (length block) 131 h, eq-eqb (length reply) 6 k, ← r)
-        (idle-told numberOf (lending block lengths handles reply) next lengths' handles' _ (putMid 3 64 block' tags)
-        (ap told-as (ap pickReply (sym q)) ∙ e)
+    pick-idle tags q t =
+        pick-told 100 (putMid 3 64 block' tags) reply (rw q)
         (rw (b, g) (block-idle block lengths handles h flowIn
-        (pickReply answer) next lengths' handles' pick-followed tags t)))
+        (pickReply answer) next lengths' handles' pick-followed tags t)) (rw q)
 
     pub pick-packet : (flow bytes own : ℕ) (tag clock : ServerTicks) (leapt : Bool) (reply' : List ℕ)
         → answer ≡ PickReply.Packet flow bytes own tag leapt clock
         → done reply' ≡ packet flow bytes own (tag .0) leapt (clock .0)
         → answered 0 (lending block' lengths' handles' reply') ≡ gatewayPick (lending block lengths handles reply)
-    unfolding gatewayPick
     pick-packet flow bytes own tag clock leapt reply' q d =
-        rw (eq-eqb (length block) 131 h, eq-eqb (length reply) 6 k, ← r)
-        (done-told numberOf (lending block lengths handles reply) next lengths' handles' _ reply' block'
-        (ap told-as (d ∙ ap pickReply (sym q)) ∙ e)
-        (rw (b, g) (block-done block lengths handles h flowIn (pickReply answer) next lengths' handles' pick-followed
-        (λ z. idle-done (sym (d ∙ ap pickReply (sym q) ∙ z))))))
+        let sent = d ∙ ap pickReply (sym q) in
+        pick-told 0 block' reply' (ap numberOf sent) (pick-busy (λ z. idle-done (sym (sent ∙ z))))
+        (ap (λ a. valuesOr a reply) sent)
+
+module _ (flow : ℕ) (block reply : List ℕ) where
+  pub depth-unblocked : (length block ≡ 131 → ⊥)
+      → answered 101 (lending block [] [] reply) ≡ gatewayDepth flow (lending block [] [] reply)
+  unfolding gatewayDepth
+  depth-unblocked h = rw (ne-eqb (length block) 131 h)
+
+  pub depth-unreplied : length block ≡ 131 → (length reply ≡ 4 → ⊥)
+      → answered 102 (lending block [] [] reply) ≡ gatewayDepth flow (lending block [] [] reply)
+  unfolding gatewayDepth
+  depth-unreplied h k = rw (eq-eqb (length block) 131 h, ne-eqb (length reply) 4 k)
+
+  module _ (h : length block ≡ 131) (k : length reply ≡ 4) where
+    depth-told : (number : ℕ) (reply' : List ℕ) (given : Reply) → given ≡ depthReply (recordOf block) flow
+        → number ≡ numberOf given → reply' ≡ valuesOr given reply
+        → answered number (lending block [] [] reply') ≡ gatewayDepth flow (lending block [] [] reply)
+    unfolding gatewayDepth
+    depth-told number reply' given e n w = rw (eq-eqb (length block) 131 h, eq-eqb (length reply) 4 k)
+        (outcome-told numberOf (lending block [] [] reply) given (recordOf block) [] [] _
+        (ap (λ a. outcome a (recordOf block) [] []) e) number block reply' n (sym (words-of-record block h)) w)
+
+    -- 7: the flow is not counted, or it is none of 64
+    pub depth-refused : (number : ℕ) → number ≡ 7 → (getD block 0 0 % 2 ^ 32 ≤ flow) ⊎ (64 ≤ flow)
+        → answered number (lending block [] [] reply) ≡ gatewayDepth flow (lending block [] [] reply)
+    unfolding recordOf
+    depth-refused number n (inl over) =
+        depth-told number reply (refused 7 0) (rw (le-ltb flow (getD block 0 0 % 2 ^ 32) over)) n refl
+    depth-refused number n (inr over) =
+        depth-told number reply (refused 7 0) (rw (le-ltb flow 64 over, and-false)) n refl
+
+    pub depth-done : (reply' : List ℕ) → flow < getD block 0 0 % 2 ^ 32 → flow < 64
+        → done reply' ≡ depthOf (flowAt (recordOf block) flow)
+        → answered 0 (lending block [] [] reply') ≡ gatewayDepth flow (lending block [] [] reply)
+    unfolding recordOf
+    depth-done reply' counted below d =
+        depth-told 0 reply' (done reply')
+        (d ∙ rw (lt-ltb flow (getD block 0 0 % 2 ^ 32) counted, lt-ltb flow 64 below)) refl refl

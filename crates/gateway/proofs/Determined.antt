@@ -20,6 +20,9 @@ use Rattle.gateway.proofs.uplink_arrival.Reads as arrival-reads
 use Rattle.gateway.proofs.uplink_pick as pick
 use Rattle.gateway.proofs.uplink_pick.Kinds as pick-kinds
 use Rattle.gateway.proofs.uplink_pick.Reads as pick-reads
+use Rattle.gateway.proofs.uplink_depth as depth
+use Rattle.gateway.proofs.uplink_depth.Kinds as depth-kinds
+use Rattle.gateway.proofs.uplink_depth.Reads as depth-reads
 
 -- what is told has one answer and leaves one block, two memories and one reply
 module _ (n m : ℕ) (block block' lengths lengths' handles handles' reply reply' : List ℕ)
@@ -62,3 +65,8 @@ pub pick-determined : (κs : Lfts 4) (a : ArgsD pick.signature κs) (r q : ResD 
     × (now (s .1 .1 .0) ≡ now (t .1 .1 .0))
     × (now (s .1 .1 .1 .0) ≡ now (t .1 .1 .1 .0))
 pick-determined κs a r q s t e f = one r q _ _ _ _ _ _ _ _ (e ∙ sym f)
+
+pub depth-determined : (κs : Lfts 2) (a : ArgsD depth.signature κs) (r q : ResD depth.signature κs)
+    (s t : AtExit (endedOf 2 depth-kinds.ps depth-kinds.r) κs)
+    → depth-reads.Post κs a r s → depth-reads.Post κs a q t → (r ≡ q) × (now (s .1 .1 .0) ≡ now (t .1 .1 .0))
+depth-determined κs a r q s t e f = let o = one r q _ _ [] [] [] [] _ _ (e ∙ sym f) in (o .0, o .4)

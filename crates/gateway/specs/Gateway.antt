@@ -1,5 +1,5 @@
--- What the three calls of include/uplink.h answer, and what they leave in all that is lent: the rules of document 01
--- over the record that the block is the image of.
+-- What the four calls of include/uplink.h answer, and what they leave in all that is lent: the rules of document 01
+-- and that of a depth, over the record that the block is the image of.
 -- Assumes nothing.
 use mathlib.Core.Bool.{Bool, cond}
 use mathlib.Core.List.{List}
@@ -12,8 +12,10 @@ use Rattle.uplink.specs.Opening.{openingRule}
 use Rattle.uplink.specs.Arrival.{arrivalRule}
 use Rattle.uplink.specs.Pick.{pickRule}
 use Rattle.gateway.specs.Image.{wordsOf, recordOf}
+use Rattle.gateway.specs.Depth.{depthRule}
 
--- every word of the block, every place of both memories and every word of the reply; opening and arrival have no reply
+-- every word of the block, every place of both memories and every word of the reply; opening and arrival have no reply,
+-- and depth no memories
 pub record Lent : Type 0 where
   pub block : List ℕ
   pub lengths : List ℕ
@@ -42,23 +44,26 @@ numberOf (refused number flow) = number
 abbrev pub withFlow : Reply → ℕ
 withFlow reply = numberOf reply + 2 ^ 32 * replyFlow reply
 
--- what an outcome leaves: the next record's words and both memories, and the values of the reply where there are some.
--- "A refused call changes no word of anything that is lent."
-abbrev pub leftBy : Reply → Outcome → Lent → Lent
-leftBy idle o lent = lending (wordsOf (o .state .held)) (o .state .lengths) (o .state .handles) (lent .reply)
-leftBy (done values) o lent = lending (wordsOf (o .state .held)) (o .state .lengths) (o .state .handles) values
-leftBy (refused number flow) o lent = lent
+-- the words of the reply: the values where there are some, and else as they came
+abbrev pub valuesOr : Reply → List ℕ → List ℕ
+valuesOr idle words = words
+valuesOr (done values) words = values
+valuesOr (refused number flow) words = words
 
--- what a rule's outcome is to the caller, its reply told as a number by `tell`
+-- what a rule's outcome is to the caller: its reply told as a number by `tell`, the next record's words, both memories
+-- and the words of the reply. "A refusal returns the record as given (opening: the blank record) and changes no place
+-- of either memory": proofs/Refusals.antt.
 unfoldable pub told : (Reply → ℕ) → Outcome → Lent → Answered
-told tell o lent = answered (tell (o .reply)) (leftBy (o .reply) o lent)
+told tell o lent =
+    answered (tell (o .reply))
+    (lending (wordsOf (o .state .held)) (o .state .lengths) (o .state .handles) (valuesOr (o .reply) (lent .reply)))
 
 -- the call goes on where the test holds, and is refused with the number where it does not
 abbrev demand : Bool → ℕ → Lent → Answered → Answered
 demand test number lent on = cond test on (answered number lent)
 
 -- the record that the block tells, with both memories
-abbrev held : Lent → State
+abbrev pub held : Lent → State
 held lent = state (recordOf (lent .block)) (lent .lengths) (lent .handles)
 
 -- 101: the block has exactly 131 words
@@ -80,3 +85,10 @@ gatewayPick lent =
     blocked lent
     (demand (eqb (length (lent .reply)) 6) 102 lent
     (told numberOf (pickRule (held lent)) lent))
+
+-- 102: the reply has exactly 4 words
+unfoldable pub gatewayDepth : ℕ → Lent → Answered
+gatewayDepth flow lent =
+    blocked lent
+    (demand (eqb (length (lent .reply)) 4) 102 lent
+    (told numberOf (depthRule (held lent) flow) lent))

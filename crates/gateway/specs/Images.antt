@@ -29,7 +29,7 @@ pub field-word : (field : List ℕ) (k : ℕ) → k < 16 → getD (fieldWords fi
 unfolding fieldWords
 field-word field k h = listed-at (fourAt field) 0 16 k 0 h ∙ rw zero-add
 
-entry-at : (words : List ℕ) (f : ℕ) → f < 64 → getD (fieldIn words) f 0 ≡ quarter (getD words (f / 4) 0) (f % 4)
+pub entry-at : (words : List ℕ) (f : ℕ) → f < 64 → getD (fieldIn words) f 0 ≡ quarter (getD words (f / 4) 0) (f % 4)
 unfolding fieldIn
 entry-at words f h = listed-at (λ k. quarter (getD words (k / 4) 0) (k % 4)) 0 64 f 0 h ∙ rw zero-add
 

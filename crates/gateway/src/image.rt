@@ -2,7 +2,7 @@
 // Nothing is tested here: any words are a record's, and the form test is in the calls.
 ghost use mathlib.Core.Path.{_≡_};
 ghost use Prim.Native.Nat.{_<_};
-ghost use lib.ListN.{length};
+ghost use lib.ListN.{length, getD};
 ghost use Rattle.queues.specs.Opening.{field64};
 ghost use Rattle.gateway.specs.Image.{fourAt, fieldWords, fieldIn, wordsOf, recordOf};
 ghost use Rattle.gateway.specs.Step.{stepWords};
@@ -38,6 +38,15 @@ fn field_in(words: &[u64]) -> [u16; 64]
         k += 1;
     }
     field
+}
+
+// The entry of flow f in a field, from the field's 16 words.
+pub(crate) fn entry_in(words: &[u64], f: usize) -> u64
+    requires { ⌜ (length (now words) ≡ 16) × (f < 64) ⌝ }
+    ensures { λ r. ⌜ r ≡ getD (fieldIn (now (words .entry))) f 0 ⌝ }
+{
+    let word = words[f / 4];
+    (word >> (16 * (f % 4))) % 65536
 }
 
 // All the tags at once.

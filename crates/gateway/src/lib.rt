@@ -1,6 +1,7 @@
-// The scheduler for C and Rust: the three calls of the crate `uplink` over a block of 131 words that the caller keeps.
-// An arrival or a pick writes its words back on every path, a refused one the same as they were: so no copy of the
-// record is left in the machine code.
+// The scheduler for C and Rust: the three calls of the crate `uplink` over a block of 131 words that the caller keeps,
+// and a look at one flow of it.
+// An opening, an arrival or a pick writes its words back on every path, a refused opening zeros, a refused arrival or
+// pick the same as they were: so no copy of the record is left in the machine code.
 // include/uplink.h says to the caller what is lent and what each number means.
 ghost use mathlib.Core.Path.{_≡_};
 ghost use mathlib.Core.List.{[]};
@@ -8,14 +9,18 @@ ghost use lib.ListN.{length};
 ghost use Prim.Native.Nat.{_<_};
 ghost use Rattle.reply.specs.Reply.{done, packet};
 ghost use Rattle.uplink.specs.PickReply.{pickReply};
+ghost use Rattle.uplink.specs.Record.{flowAt};
+ghost use Rattle.gateway.specs.Image.{recordOf};
+ghost use Rattle.gateway.specs.Depth.{depthOf};
 ghost use Rattle.gateway.specs.Gateway.{answered, lending};
-ghost use Rattle.gateway.specs.Gateway.{gatewayOpening, gatewayArrival, gatewayPick};
+ghost use Rattle.gateway.specs.Gateway.{gatewayOpening, gatewayArrival, gatewayPick, gatewayDepth};
 ghost use Rattle.gateway.specs.Step.{flowIn};
 
 mod image;
 
 use reply::ArrivalReply;
 use reply::OpeningReply;
+use reply::Refusal;
 use tags::ServerTicks;
 use uplink::PickReply;
 use uplink::Record;
@@ -23,8 +28,11 @@ use uplink::Record;
 // The words of a block.
 const BLOCK_WORDS: usize = 131;
 
-// The words of a reply.
+// The words of a pick's reply.
 const REPLY_WORDS: usize = 6;
+
+// The words of a depth's reply.
+const DEPTH_WORDS: usize = 4;
 
 // What a call answers besides document 01's numbers 1 to 10, by its name in include/uplink.h.
 const DONE: u32 = 0;
@@ -35,7 +43,7 @@ const IDLE: u32 = 100;
 // The block has not exactly 131 words.
 const REFUSED_RECORD: u32 = 101;
 
-// The reply has not exactly 6 words.
+// The reply has not exactly 6 words, a depth's not exactly 4.
 const REFUSED_REPLY: u32 = 102;
 
 // The packet to send, in a reply of six words.
@@ -77,14 +85,16 @@ pub extern "C" fn uplink_opening(
     }
     let opened = Record::opening(shares, largest, lengths, handles);
     let answer = opened.reply;
-    if let OpeningReply::Refused(why) = answer {
-        let number = why.number();
-        let flow = why.flow();
-        return number as u64 + 4294967296 * (flow as u64);
-    }
     let next = opened.next;
     image::write_record(next, block);
-    DONE as u64
+    match answer {
+        OpeningReply::Refused(why) => {
+            let number = why.number();
+            let flow = why.flow();
+            number as u64 + 4294967296 * (flow as u64)
+        }
+        OpeningReply::Done => DONE as u64,
+    }
 }
 
 // A packet comes to a flow.
@@ -176,4 +186,36 @@ pub extern "C" fn uplink_pick(
             DONE
         }
     }
+}
+
+// What waits in a flow, its share, largest packet and tag, in a reply of four words.
+fn write_depth(block: &[u64], flow: u32, reply: &mut [u64])
+    requires { ⌜ (length (now block) ≡ 131) × (flow < 64) × (length (now reply) ≡ 4) ⌝ }
+    ensures { λ _. ⌜ done (now (reply .exit)) ≡ depthOf (flowAt (recordOf (now (block .entry))) flow) ⌝ }
+{
+    let f = flow as usize;
+    reply[0] = image::entry_in(&block[115..131], f);
+    reply[1] = image::entry_in(&block[67..83], f);
+    reply[2] = image::entry_in(&block[83..99], f);
+    reply[3] = block[3 + f];
+}
+
+// How many packets wait in a flow. The form of the record is not tested.
+#[no_mangle]
+pub extern "C" fn uplink_depth(flow: u32, block: &[u64], reply: &mut [u64]) -> u32
+    ensures exact { λ r. ⌜ answered r (lending (now (block .entry)) [] [] (now (reply .exit)))
+        ≡ gatewayDepth flow (lending (now (block .entry)) [] [] (now (reply .entry))) ⌝ }
+{
+    if block.len() != BLOCK_WORDS {
+        return REFUSED_RECORD;
+    }
+    if reply.len() != DEPTH_WORDS {
+        return REFUSED_REPLY;
+    }
+    let flows = block[0] % 4294967296;
+    if flow as u64 >= flows || flow >= 64 {
+        return Refusal::NoFlow.number();
+    }
+    write_depth(block, flow, reply);
+    DONE
 }

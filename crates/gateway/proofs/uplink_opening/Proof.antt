@@ -14,6 +14,9 @@ returns c = search (needs, opening-unblocked)
 opening-requires : tie.Need-opening-requires
 opening-requires c κs = search needs
 
+write-record-requires : tie.Need-write-record-requires
+write-record-requires c κs = search needs
+
 enum-known-answer : tie.Need-enum-known-answer
 enum-known-answer c = search needs
 
@@ -35,32 +38,32 @@ mul-result c = search needs
 add-result : tie.Need-add-result
 add-result c = search needs
 
+enum-told : tie.Need-enum-told
+enum-told c = search needs
+
+cast-result-4 : tie.Need-cast-result-4
+cast-result-4 c = search needs
+
 same-length : tie.Need-same-length
 same-length c = search needs
 
 same-length-2 : tie.Need-same-length-2
 same-length-2 c = search needs
 
-returns-2 : tie.Need-returns-2
-returns-2 c = search (needs, opening-refused)
-
-enum-told : tie.Need-enum-told
-enum-told c = search needs
-
-write-record-requires : tie.Need-write-record-requires
-write-record-requires c κs = search needs
-
-cast-result-4 : tie.Need-cast-result-4
-cast-result-4 c = search needs
-
 same-length-3 : tie.Need-same-length-3
 same-length-3 c = search needs
+
+returns-2 : tie.Need-returns-2
+returns-2 c = search (needs, opening-refused)
 
 same-length-4 : tie.Need-same-length-4
 same-length-4 c = search needs
 
 same-length-5 : tie.Need-same-length-5
 same-length-5 c = search needs
+
+same-length-6 : tie.Need-same-length-6
+same-length-6 c = search needs
 
 returns-3 : tie.Need-returns-3
 returns-3 c = search (needs, opening-done)
@@ -72,6 +75,7 @@ uplink-opening-spec =
     cast-result
     returns
     opening-requires
+    write-record-requires
     enum-known-answer
     number-requires
     flow-requires
@@ -79,13 +83,13 @@ uplink-opening-spec =
     cast-result-3
     mul-result
     add-result
+    enum-told
+    cast-result-4
     same-length
     same-length-2
-    returns-2
-    enum-told
-    write-record-requires
-    cast-result-4
     same-length-3
+    returns-2
     same-length-4
     same-length-5
+    same-length-6
     returns-3)
