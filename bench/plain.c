@@ -175,13 +175,13 @@ enum plain_answer plain_opening(const uint32_t *shares, size_t shares_count,
     enum plain_answer answer;
 
     *at = 0;
+    memset(record, 0, sizeof *record); /* "A refusal returns .. (opening: the blank record)" */
     if (lengths_places != PLAIN_PLACES || handles_places != PLAIN_PLACES)
         return PLAIN_BAD_MEMORY;
     answer = refuse_lists(shares, shares_count, largest, largest_count, at);
     if (answer != PLAIN_DONE)
         return answer;
 
-    memset(record, 0, sizeof *record);
     record->flows = (uint32_t)shares_count;
     for (uint32_t f = 0; f < record->flows; f++) {
         record->flow[f].share = (uint16_t)shares[f];
@@ -269,7 +269,8 @@ static void serve(struct plain_record *record, uint32_t f, uint16_t *lengths, ui
     reply->leapt = flow->tag > record->clock + 2 * leap;
     if (reply->leapt)
         record->clock += leap;
-    /* "Add 720 x n to clock and link time. The freed place becomes 0 in both memories; first goes on by one, 63 to 0." */
+    /* "Add 720 x n to clock and link time. The freed place becomes 0 in both memories; first goes on by one, 63 to
+     * 0." */
     record->clock += (uint64_t)TICKS_PER_BYTE * reply->length;
     record->link += (uint64_t)TICKS_PER_BYTE * reply->length;
     reply->clock = record->clock;
@@ -305,5 +306,14 @@ enum plain_answer plain_pick(struct plain_record *record,
     if (record->clock >= PICK_END)
         return PLAIN_CLOCK_OUT;
     serve(record, f, lengths, handles, reply);
+    return PLAIN_DONE;
+}
+
+/* Refused with 7 where there is no such flow, whatever number of flows the record holds. */
+enum plain_answer plain_depth(uint32_t f, const struct plain_record *record, struct plain_flow *flow)
+{
+    if (f >= record->flows || f >= PLAIN_FLOWS)
+        return PLAIN_NO_FLOW;
+    *flow = record->flow[f];
     return PLAIN_DONE;
 }

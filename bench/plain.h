@@ -1,6 +1,7 @@
-/* The uplink scheduler in plain C: the three calls of document 01 over a record by pointer.
+/* The uplink scheduler in plain C: the three calls of document 01 over a record by pointer, and a look at one flow.
  *
- * The caller owns the record and the two memories. A refused call changes nothing.
+ * The caller owns the record and the two memories. A refused opening leaves the blank record, which is all zeros, and
+ * both memories as they were; any other refused call changes nothing.
  * With PLAIN_UNCHECKED defined, arrival and pick leave out the test that the record is well formed, and nothing else.
  * With PLAIN_STRETCHES defined, waiting lengths are tested a stretch at a time, not one by one. */
 #ifndef PLAIN_H
@@ -75,5 +76,8 @@ enum plain_answer plain_pick(struct plain_record *record,
                              uint16_t *lengths, size_t lengths_places,
                              uint32_t *handles, size_t handles_places,
                              struct plain_reply *reply);
+
+/* *flow becomes flow f of any record at all, with PLAIN_DONE only. */
+enum plain_answer plain_depth(uint32_t f, const struct plain_record *record, struct plain_flow *flow);
 
 #endif

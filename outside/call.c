@@ -2,6 +2,7 @@
 
 #include <inttypes.h>
 #include <stdio.h>
+#include <string.h>
 
 #include "dice.h"
 #include "loan.h"
@@ -18,6 +19,11 @@ void call_prepare(void)
     loan_make(&reply, "reply word", sizeof(uint64_t), 2 * UPLINK_REPLY_WORDS);
 }
 
+size_t reply_words_of(enum call_kind kind)
+{
+    return kind == DEPTH ? UPLINK_DEPTH_WORDS : UPLINK_REPLY_WORDS;
+}
+
 /* What the library answers to the call, on loans that begin as `state` and `reply_given` say. */
 static uint64_t library_answer(const struct call *call, const struct state *state, const uint64_t *reply_given)
 {
@@ -28,6 +34,9 @@ static uint64_t library_answer(const struct call *call, const struct state *stat
 
     to_words(&state->record, words);
     record_at = lend(&record, call->record_words, words, UPLINK_RECORD_WORDS);
+    if (call->kind == DEPTH)
+        return uplink_depth(call->flow, record_at, call->record_words,
+                             lend(&reply, call->reply_words, reply_given, UPLINK_DEPTH_WORDS), call->reply_words);
     lengths_at = lend(&lengths, call->lengths_places, state->lengths, UPLINK_PLACES);
     handles_at = lend(&handles, call->handles_places, state->handles, UPLINK_PLACES);
     if (call->kind == OPENING) {
@@ -66,6 +75,23 @@ static uint64_t plain_pick_answer(const struct call *call, struct state *state, 
     return answer;
 }
 
+static uint64_t plain_depth_answer(const struct call *call, const struct state *state, uint64_t *words)
+{
+    struct plain_flow flow;
+    enum plain_answer answer;
+
+    if (call->reply_words != UPLINK_DEPTH_WORDS)
+        return UPLINK_REFUSED_REPLY;
+    answer = plain_depth(call->flow, &state->record, &flow);
+    if (answer == PLAIN_DONE) {
+        words[0] = flow.waiting;
+        words[1] = flow.share;
+        words[2] = flow.largest;
+        words[3] = flow.tag;
+    }
+    return answer;
+}
+
 /* What the call has to answer; `state` and the reply's words become what they have to be. */
 static uint64_t plain_answer(const struct call *call, struct state *state, uint64_t *words)
 {
@@ -82,7 +108,18 @@ static uint64_t plain_answer(const struct call *call, struct state *state, uint6
     if (call->kind == ARRIVAL)
         return plain_arrival(call->flow, call->length, call->handle, &state->record,
                              state->lengths, call->lengths_places, state->handles, call->handles_places);
+    if (call->kind == DEPTH)
+        return plain_depth_answer(call, state, words);
     return plain_pick_answer(call, state, words);
+}
+
+/* What a refused call leaves, whatever the plain implementation did: what was given, but for the record of an opening,
+ * which is then blank unless it is the record that was refused. */
+static void refuse(const struct call *call, const struct state *given, uint32_t answer, struct state *state)
+{
+    *state = *given;
+    if (call->kind == OPENING && answer != UPLINK_REFUSED_RECORD)
+        memset(&state->record, 0, sizeof state->record);
 }
 
 static bool loans_hold(const struct call *call, const struct state *state, const uint64_t *reply_words)
@@ -90,7 +127,11 @@ static bool loans_hold(const struct call *call, const struct state *state, const
     uint64_t words[UPLINK_RECORD_WORDS];
 
     to_words(&state->record, words);
-    if (!loan_holds(&record, words) || !loan_holds(&lengths, state->lengths) || !loan_holds(&handles, state->handles))
+    if (!loan_holds(&record, words))
+        return false;
+    if (call->kind == DEPTH)
+        return loan_holds(&reply, reply_words);
+    if (!loan_holds(&lengths, state->lengths) || !loan_holds(&handles, state->handles))
         return false;
     if (call->kind == OPENING)
         return loan_holds(&shares, call->shares) && loan_holds(&largest, call->largest);
@@ -107,14 +148,17 @@ static void show_list(const char *name, const uint32_t *list, size_t count)
 
 static void show(const struct call *call)
 {
-    static const char *names[] = {"opening", "arrival", "pick"};
+    static const char *names[CALL_KINDS] = {"opening", "arrival", "pick", "depth"};
 
     printf("  call: %s", names[call->kind]);
+    if (call->kind == ARRIVAL || call->kind == DEPTH)
+        printf(" at flow %" PRIu32, call->flow);
     if (call->kind == ARRIVAL)
-        printf(" at flow %" PRIu32 " of length %" PRIu32 ", handle %" PRIu32, call->flow, call->length, call->handle);
-    printf("; record words %zu, lengths %zu, handles %zu", call->record_words, call->lengths_places,
-           call->handles_places);
-    if (call->kind == PICK)
+        printf(" of length %" PRIu32 ", handle %" PRIu32, call->length, call->handle);
+    printf("; record words %zu", call->record_words);
+    if (call->kind != DEPTH)
+        printf(", lengths %zu, handles %zu", call->lengths_places, call->handles_places);
+    if (call->kind == PICK || call->kind == DEPTH)
         printf(", reply words %zu", call->reply_words);
     printf("\n");
     if (call->kind == OPENING) {
@@ -140,9 +184,10 @@ bool call_agrees(const struct call *call, struct state *state, struct outcome *o
     if (got != expected)
         printf("  answer: expected %" PRIu64 " (flow %" PRIu64 "), got %" PRIu64 " (flow %" PRIu64 ")\n",
                expected & UINT32_MAX, expected >> 32, got & UINT32_MAX, got >> 32);
-    /* A refused call leaves what was given, whatever the plain implementation did. */
     taken = outcome->answer == UPLINK_DONE || outcome->answer == UPLINK_IDLE;
-    same = loans_hold(call, taken ? state : &given, taken ? reply_next : reply_given);
+    if (!taken)
+        refuse(call, &given, outcome->answer, state);
+    same = loans_hold(call, state, taken ? reply_next : reply_given);
     if (got == expected && same)
         return true;
     printf("  given: flows %" PRIu32 ", leap width %" PRIu32 ", clock %" PRIu64 ", link time %" PRIu64 "\n",

@@ -10,15 +10,19 @@
 
 #define CALL_ROWS 66
 
-enum call_kind { OPENING, ARRIVAL, PICK };
+enum call_kind { OPENING, ARRIVAL, PICK, DEPTH };
+
+#define CALL_KINDS (DEPTH + 1)
 
 struct call {
     enum call_kind kind;
-    uint32_t flow, length, handle;                        /* arrival */
+    uint32_t flow;                                        /* arrival, depth */
+    uint32_t length, handle;                              /* arrival */
     uint32_t shares[CALL_ROWS], largest[CALL_ROWS];       /* opening */
     size_t shares_count, largest_count;
-    size_t record_words, lengths_places, handles_places;  /* all */
-    size_t reply_words;                                   /* pick */
+    size_t record_words;                                  /* all */
+    size_t lengths_places, handles_places;                /* all but depth */
+    size_t reply_words;                                   /* pick, depth */
 };
 
 struct outcome {
@@ -27,6 +31,9 @@ struct outcome {
 };
 
 void call_prepare(void);
+
+/* The words of a reply to this kind of call. */
+size_t reply_words_of(enum call_kind kind);
 
 /* Makes the call. True where the answer, the record, both memories, the reply, the lists and all guards are as they
  * have to be; `state` is then the next one. Otherwise says what differs first. */

@@ -1,12 +1,12 @@
-/* The library's three calls, compared with the plain C implementation of document 01.
+/* The library's four calls, compared with the plain C implementation of document 01.
  *
  *     outside CALLS SEED
  *
  * Good scripts, states built at the limits, damaged states, blank ones and noise, with good and bad arguments and loans
  * of wrong lengths. After each call the answer, every word of the block, every place of both memories, every word of
- * the reply and guards around all of them are compared; after a refused call nothing may have changed. Stops at the
- * first difference. In a million calls or more, each answer has to come up a thousand times; in fewer calls, once in a
- * thousand. */
+ * the reply and guards around all of them are compared; after a refused opening the block has to be all zeros, and
+ * after any other refused call nothing may have changed. Stops at the first difference. In a million calls or more,
+ * each answer, and each of a depth's, has to come up a thousand times; in fewer calls, once in a thousand. */
 #include <inttypes.h>
 #include <signal.h>
 #include <stdio.h>
@@ -19,7 +19,7 @@
 #define ANSWERS (UPLINK_REFUSED_REPLY + 1)
 
 static uint64_t wanted, compared, seed;
-static uint64_t counts[3][ANSWERS];
+static uint64_t counts[CALL_KINDS][ANSWERS];
 static uint64_t leaps;
 static struct state state;
 
@@ -61,17 +61,17 @@ static void spoil_lengths(struct call *call)
     case 0: call->record_words = wrong_count(UPLINK_RECORD_WORDS); break;
     case 1: call->lengths_places = wrong_count(UPLINK_PLACES); break;
     case 2: call->handles_places = wrong_count(UPLINK_PLACES); break;
-    default: call->reply_words = wrong_count(UPLINK_REPLY_WORDS); break;
+    default: call->reply_words = wrong_count(reply_words_of(call->kind)); break;
     }
 }
 
-/* A call of this kind whose loans have the right lengths, but for a few. */
+/* A call of this kind whose loans have the right lengths, but for a few: a depth has fewer loans to spoil. */
 static struct call new_call(enum call_kind kind)
 {
     struct call call = {.kind = kind, .record_words = UPLINK_RECORD_WORDS, .lengths_places = UPLINK_PLACES,
-                        .handles_places = UPLINK_PLACES, .reply_words = UPLINK_REPLY_WORDS};
+                        .handles_places = UPLINK_PLACES, .reply_words = reply_words_of(kind)};
 
-    if (one_in(40)) {
+    if (one_in(kind == DEPTH ? 10 : 40)) {
         spoil_lengths(&call);
         if (one_in(4))
             spoil_lengths(&call);
@@ -97,12 +97,27 @@ static uint32_t try_pick(void)
     return try_call(&call);
 }
 
-/* An arrival at some flow: mostly one that is there, mostly of a length that fits. */
-static uint32_t try_any_arrival(void)
+/* Some flow: mostly one that is there. */
+static uint32_t any_flow(void)
 {
     uint32_t flows = state.record.flows;
     const uint32_t bad_flows[] = {flows, flows + 1, 63, 64, 65, 65536, UINT32_MAX};
-    uint32_t flow = one_in(12) || flows == 0 ? ONE_OF(bad_flows) : (uint32_t)spread(flows - 1);
+
+    return one_in(12) || flows == 0 ? ONE_OF(bad_flows) : (uint32_t)spread(flows - 1);
+}
+
+static uint32_t try_depth(void)
+{
+    struct call call = new_call(DEPTH);
+
+    call.flow = any_flow();
+    return try_call(&call);
+}
+
+/* An arrival at some flow, mostly of a length that fits. */
+static uint32_t try_any_arrival(void)
+{
+    uint32_t flow = any_flow();
     uint32_t most = flow < PLAIN_FLOWS ? state.record.flow[flow].largest : 100;
     const uint32_t bad_lengths[] = {0, most + 1, 1500, 1501, 65536, 65536 + most, UINT32_MAX};
 
@@ -111,6 +126,8 @@ static uint32_t try_any_arrival(void)
 
 static uint32_t try_any(void)
 {
+    if (one_in(6))
+        return try_depth();
     return one_in(2) ? try_any_arrival() : try_pick();
 }
 
@@ -174,7 +191,9 @@ static void run_script(void)
         for (uint64_t left = below(150); left > 0 && more(); left--) {
             uint32_t flows = state.record.flows;
 
-            if (below(8) >= weight)
+            if (one_in(10))
+                try_depth();
+            else if (below(8) >= weight)
                 try_pick();
             else if (alone && flows > 0)
                 try_arrival(favoured % flows, 1 + (uint32_t)spread(state.record.flow[favoured % flows].largest - 1u));
@@ -236,7 +255,16 @@ static void run_all(void)
 
 static uint64_t count(uint32_t answer)
 {
-    return counts[OPENING][answer] + counts[ARRIVAL][answer] + counts[PICK][answer];
+    return counts[OPENING][answer] + counts[ARRIVAL][answer] + counts[PICK][answer] + counts[DEPTH][answer];
+}
+
+/* True where each answer of a depth came up often enough: other calls give the same ones. */
+static bool enough_depths(uint64_t needed)
+{
+    const uint64_t *depths = counts[DEPTH];
+
+    return depths[UPLINK_DONE] >= needed && depths[UPLINK_REFUSED_FLOW] >= needed
+        && depths[UPLINK_REFUSED_RECORD] >= needed && depths[UPLINK_REFUSED_REPLY] >= needed;
 }
 
 /* True where every answer, and leaps, came up often enough. */
@@ -244,14 +272,15 @@ static bool report(void)
 {
     static const uint32_t answers[] = {0, 1, 2, 3, 4, 5, 6, 7, 8, 9, 10, UPLINK_IDLE, 101, 102};
     uint64_t needed = wanted < 1000000 ? wanted / 1000 : 1000;
-    bool enough = leaps >= needed;
+    bool enough = leaps >= needed && enough_depths(needed);
 
-    printf("%8s %10s %10s %10s %10s\n", "answer", "opening", "arrival", "pick", "all");
+    printf("%8s %10s %10s %10s %10s %10s\n", "answer", "opening", "arrival", "pick", "depth", "all");
     for (size_t i = 0; i < sizeof answers / sizeof *answers; i++) {
         uint32_t answer = answers[i];
 
-        printf("%8" PRIu32 " %10" PRIu64 " %10" PRIu64 " %10" PRIu64 " %10" PRIu64 "\n", answer,
-               counts[OPENING][answer], counts[ARRIVAL][answer], counts[PICK][answer], count(answer));
+        printf("%8" PRIu32 " %10" PRIu64 " %10" PRIu64 " %10" PRIu64 " %10" PRIu64 " %10" PRIu64 "\n", answer,
+               counts[OPENING][answer], counts[ARRIVAL][answer], counts[PICK][answer], counts[DEPTH][answer],
+               count(answer));
         enough = enough && count(answer) >= needed;
     }
     printf("%8s %10s %10s %10" PRIu64 "\n", "leaps", "", "", leaps);
