@@ -133,20 +133,12 @@ uint32_t uplink_pick(uint64_t *record, size_t record_words,
                      uint32_t *handles, size_t handles_places,
                      uint64_t *reply, size_t reply_words);
 
-/* How many packets wait in `flow`, so that a gateway can push back before 9; and the flow's share, largest packet and
- * tag. Changes nothing but reply, and that only where the answer is UPLINK_DONE. It does not test the form and tells
- * what stands in the record; the blank record has no flow. Order of refusals: 101, 102, 7. */
+/* How many packets wait in `flow`, so that a gateway can push back before 9. Where the answer is UPLINK_DONE, reply
+ * holds the number of packets that wait in the flow, its share, its largest packet and its tag, in this order; with any
+ * other answer no word of reply changes. The record is only looked at, and its form is not tested: what stands in it is
+ * told. A flow of 64 or more is no such flow, whatever number of flows the record holds.
+ * Order of refusals: 101, 102, 7. */
 uint32_t uplink_depth(uint32_t flow, const uint64_t *record, size_t record_words, uint64_t *reply, size_t reply_words);
-
-#define UPLINK_DEPTH_WORDS 4
-
-/* How many packets wait in `flow`, so that a gateway can push back. The record is only looked at, and its form is not
- * tested. Where the answer is UPLINK_DONE, reply holds the number of packets that wait in the flow, its share, its
- * largest packet and its tag, in this order; with any other answer no word of reply changes.
- * A flow of 64 or more is no such flow, whatever number of flows the record holds.
- * Order of refusals: 101, 102 (reply has not exactly UPLINK_DEPTH_WORDS words), 7. */
-uint32_t uplink_depth(uint32_t flow, const uint64_t *record, size_t record_words,
-                       uint64_t *reply, size_t reply_words);
 
 #ifdef __cplusplus
 }
