@@ -1,5 +1,5 @@
 /* Noon at the gateway: a camera and sixty loggers share one link, all of them with packets waiting all the time.
- * Prints what the camera and the loggers got, beside what they booked.
+ * Prints what the camera and the loggers got, beside what they booked, and how often the camera was pushed back.
  *
  * Build and run, in the repository's folder, once `tools/library` has made the library:
  *   gcc -O2 -Iinclude examples/noon.c target/library/libuplink.a -o target/noon && target/noon
@@ -9,7 +9,7 @@
 #include <stdlib.h>
 #include "uplink.h"
 
-enum { FLOWS = 61, CAMERA = 0, DEEP = 8, PICKS = 200000 };
+enum { FLOWS = 61, CAMERA = 0, DEEP = 8, PUSH_BACK = 48, PICKS = 200000 };
 
 /* What the caller keeps between calls, and where a pick's reply comes. */
 static uint64_t record[UPLINK_RECORD_WORDS], reply[UPLINK_REPLY_WORDS];
@@ -32,9 +32,18 @@ static void arrive(uint32_t flow, uint32_t handle)
                                    handles, UPLINK_PLACES));
 }
 
+/* How many packets wait in the flow. */
+static uint64_t waiting(uint32_t flow)
+{
+    uint64_t depth[UPLINK_DEPTH_WORDS];
+
+    must("depth", uplink_depth(flow, record, UPLINK_RECORD_WORDS, depth, UPLINK_DEPTH_WORDS));
+    return depth[UPLINK_DEPTH_WAITING];
+}
+
 int main(void)
 {
-    uint64_t bytes[FLOWS] = {0}, all = 0, logged = 0, least = UINT64_MAX, most = 0, leaps = 0;
+    uint64_t bytes[FLOWS] = {0}, all = 0, logged = 0, least = UINT64_MAX, most = 0, leaps = 0, pushed_back = 0;
 
     for (uint32_t f = 0; f < FLOWS; f++) {
         shares[f] = f == CAMERA ? 700 : 5;
@@ -54,6 +63,13 @@ int main(void)
         all += reply[UPLINK_REPLY_LENGTH];
         leaps += reply[UPLINK_REPLY_LEAPT];
         arrive((uint32_t)reply[UPLINK_REPLY_FLOW], DEEP + i);
+        /* The camera makes twice of what is sent. Before its 64 places are full, the gateway tells it to wait. */
+        if (reply[UPLINK_REPLY_FLOW] == CAMERA) {
+            if (waiting(CAMERA) < PUSH_BACK)
+                arrive(CAMERA, DEEP + PICKS + i);
+            else
+                pushed_back++;
+        }
     }
 
     for (uint32_t f = 1; f < FLOWS; f++) {
@@ -68,5 +84,6 @@ int main(void)
            1000.0 * (double)logged / (double)all);
     printf("least logger: %10" PRIu64 " bytes\n", least);
     printf("most logger:  %10" PRIu64 " bytes\n", most);
+    printf("camera:       %10" PRIu64 " packets pushed back, at %" PRIu64 " waiting\n", pushed_back, waiting(CAMERA));
     return 0;
 }

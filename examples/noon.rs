@@ -1,5 +1,5 @@
 //! Noon at the gateway: a camera and sixty loggers share one link, all of them with packets waiting all the time.
-//! Prints what the camera and the loggers got, beside what they booked.
+//! Prints what the camera and the loggers got, beside what they booked, and how often the camera was pushed back.
 //!
 //! Build and run, in the repository's folder, once `tools/library` has made the library:
 //!   rustc -O examples/noon.rs -L target/library -l static=uplink -o target/noon-rs && target/noon-rs
@@ -12,6 +12,7 @@ use uplink::{Pick, Refusal, Uplink};
 const FLOWS: usize = 61;
 const CAMERA: usize = 0;
 const DEEP: u32 = 8;
+const PUSH_BACK: u32 = 48;
 const PICKS: u32 = 200_000;
 
 fn noon() -> Result<(), Refusal> {
@@ -31,6 +32,7 @@ fn noon() -> Result<(), Refusal> {
     }
     let mut bytes = [0u64; FLOWS];
     let mut leaps = 0;
+    let mut pushed_back = 0;
     for i in 0..PICKS {
         let packet = match link.pick() {
             Pick::Packet(packet) => packet,
@@ -41,6 +43,14 @@ fn noon() -> Result<(), Refusal> {
         bytes[f] += packet.length as u64;
         leaps += packet.leapt as u64;
         link.arrival(packet.flow, largest[f], DEEP + i)?;
+        // The camera makes twice of what is sent. Before its 64 places are full, the gateway tells it to wait.
+        if f == CAMERA {
+            if link.depth(packet.flow)?.waiting < PUSH_BACK {
+                link.arrival(packet.flow, largest[f], DEEP + PICKS + i)?;
+            } else {
+                pushed_back += 1;
+            }
+        }
     }
 
     let all: u64 = bytes.iter().sum();
@@ -60,6 +70,11 @@ fn noon() -> Result<(), Refusal> {
     );
     println!("least logger: {:10} bytes", loggers.iter().min().unwrap());
     println!("most logger:  {:10} bytes", loggers.iter().max().unwrap());
+    println!(
+        "camera:       {:10} packets pushed back, at {} waiting",
+        pushed_back,
+        link.depth(CAMERA as u32)?.waiting
+    );
     Ok(())
 }
 
