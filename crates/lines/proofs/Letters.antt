@@ -11,9 +11,10 @@ use lib.Seq.{length-take-le}
 use borrow.Author.Tests.{ltb-true, ltb-false, eq-eqb, ne-eqb}
 use Rattle.lines.specs.declared.Line.{Line}
 use Rattle.lines.specs.Text.{space, before, endFrom, partsOf}
+use Rattle.lines.specs.Places.{parts-some}
 use Rattle.lines.specs.Ends.{before-most}
 use Rattle.lines.specs.Line.{letterF, letterO, letterA, letterP, is, fieldsLine, lineOf}
-use Rattle.lines.proofs.Parting.{rest, rest-drop, parts-some, mark-there, end-before, fields-cut, fields-whole}
+use Rattle.lines.proofs.Parting.{rest, rest-drop, mark-there, end-before, fields-cut, fields-whole}
 
 -- a field that is not one byte is no letter
 not-letter : (letter : ℕ) (field : List ℕ) → (length field ≡ 1 → ⊥) → is letter field ≡ false

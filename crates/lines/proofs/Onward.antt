@@ -1,71 +1,22 @@
 -- The lines of an input, one after the other, and what has been written of them.
 -- Assumes nothing.
-use mathlib.Core.Path.{_≡_, refl, sym, _∙_}
-use mathlib.Core.Bool.{Bool, true, false}
-use mathlib.Core.List.{List, [], _∷_, _++_, append-assoc, append-nil}
-use Prim.Native.Nat.{ℕ, suc, _+_, _-_, _^_, _≤_, _<_}
+use mathlib.Core.Path.{_≡_, refl, _∙_}
+use mathlib.Core.List.{List, [], append-assoc, append-nil}
+use Prim.Native.Nat.{ℕ, _+_, _-_, _^_, _≤_, _<_}
 use native.Mathlib.Omega.{arith}
-use lib.Dec.{ltb}
-use lib.ListN.{length, take, drop, length-drop, drop-of-length-le}
-use lib.Seq.{take-all, drop-drop, length-take-le}
-use borrow.Author.Tests.{ltb-true, ltb-false}
+use lib.ListN.{length, take, drop}
+use lib.Seq.{drop-drop, length-take-le}
 use Rattle.lines.specs.declared.Script.{Script}
 use Rattle.lines.specs.declared.Stepped.{Stepped}
-use Rattle.lines.specs.Text.{lineFeed, before, endFrom, partsOf, Put}
-use Rattle.lines.specs.Step.{ScriptState, Made, scriptState, scriptStep, Gives}
-use Rattle.lines.specs.Whole.{noEmptyRest, linesOf, outputFrom, Runs}
-use Rattle.lines.proofs.Parting.{parts-cut, parts-whole, parts-some}
+use Rattle.lines.specs.declared.Ran.{Ran}
+use Rattle.lines.specs.Text.{lineFeed, endFrom, Put}
+use Rattle.lines.specs.Step.{Made, scriptState, scriptStep, Gives}
+use Rattle.lines.specs.Whole.{linesOf, ended, after, runFrom, Runs}
+use Rattle.lines.specs.Places.{lineAt, line-length, lines-next, no-line}
+use Rattle.lines.specs.Running.{run-full, run-none, run-line}
 
--- a part with others behind it is a line, and so is a last part that is not empty
-rest-more : (line : List ℕ) (ps : List (List ℕ)) → 1 ≤ length ps → noEmptyRest (line ∷ ps) ≡ line ∷ noEmptyRest ps
-unfolding noEmptyRest
-rest-more line [] h = absurd (omega arith)
-rest-more line (p ∷ ps) h = refl
-
-rest-last : (line : List ℕ) → 1 ≤ length line → noEmptyRest (line ∷ []) ≡ line ∷ []
-unfolding noEmptyRest
-rest-last [] h = absurd (omega arith)
-rest-last (b ∷ bs) h = refl
-
-no-lines : linesOf [] ≡ []
-unfolding noEmptyRest partsOf
-no-lines = refl
-
--- the part of an input from a line's start to its end, as a slice has it
-abbrev pub lineAt : List ℕ → ℕ → ℕ → List ℕ
-lineAt input at end = take (end - at) (drop at input)
-
-module _ (input : List ℕ) (at end : ℕ) (e : end ≡ endFrom lineFeed input at) (h : at < length input) where
-  cut-line : before lineFeed (drop at input) < length (drop at input)
-      → linesOf (drop at input) ≡ lineAt input at end ∷ linesOf (drop (end + 1) input)
-  cut-line l = let b = before lineFeed (drop at input) in
-      let u : end - at ≡ b = omega arith in
-      let v : end + 1 ≡ at + suc b = omega arith in
-      rw (parts-cut lineFeed (drop at input) l, u, v, ← drop-drop (suc b) at input)
-      (rest-more (take b (drop at input)) (partsOf lineFeed (drop (suc b) (drop at input)))
-      (parts-some lineFeed (drop (suc b) (drop at input))))
-
-  last-line : length (drop at input) ≤ before lineFeed (drop at input)
-      → linesOf (drop at input) ≡ lineAt input at end ∷ linesOf (drop (end + 1) input)
-  last-line l = let d = length-drop at input in
-      rw (
-        parts-whole lineFeed (drop at input) l,
-        drop-of-length-le input {i = end + 1} (omega arith),
-        no-lines,
-        take-all (end - at) (drop at input) (omega arith),
-      )
-      (rest-last (drop at input) (omega arith))
-
-  -- the line at a place, and those behind it
-  pub lines-next : linesOf (drop at input) ≡ lineAt input at end ∷ linesOf (drop (end + 1) input)
-  lines-next = go (ltb (before lineFeed (drop at input)) (length (drop at input))) refl
-    where
-      go : (b : Bool) → ltb (before lineFeed (drop at input)) (length (drop at input)) ≡ b
-          → linesOf (drop at input) ≡ lineAt input at end ∷ linesOf (drop (end + 1) input)
-      go true t = cut-line (ltb-true _ _ t)
-      go false t = last-line (ltb-false _ _ t)
-
--- the lines from `from` up to `at` have been run, from the script `first` and its memories; their output is collected
+-- the lines from `from` up to `at` have been run, from the script `first` and its memories, and their output is
+-- collected: with the lines that are left, this is the run of all of them
 pub record Going (first : Script) (lengths₀ handles₀ out₀ input : List ℕ) (from : ℕ) (s : Script)
     (lengths handles out : List ℕ) (at used : ℕ) : Type 0 where
   pub lengths-kept : length lengths ≡ length lengths₀
@@ -73,24 +24,25 @@ pub record Going (first : Script) (lengths₀ handles₀ out₀ input : List ℕ
   pub out-kept : length out ≡ length out₀
   pub small : length input < 2 ^ 63
   pub within : used ≤ length out
-  pub moved : from ≤ at
-  pub fresh : at ≤ from → used ≡ 0
-  pub exact : outputFrom (scriptState first lengths₀ handles₀) (linesOf (drop from input))
-      ≡ take used out ++ outputFrom (scriptState s lengths handles) (linesOf (drop at input))
+  pub exact : after (take used out) (runFrom (length out - used) (scriptState s lengths handles) input at)
+      ≡ runFrom (length out₀) (scriptState first lengths₀ handles₀) input from
+  pub beyond : drop used out ≡ drop used out₀
 
 pub going-none : (s : Script) (lengths handles out input : List ℕ) (from : ℕ) → length input < 2 ^ 63
     → Going s lengths handles out input from s lengths handles out from 0
-going-none s lengths handles out input from h =
+going-none s lengths handles out input from h = let e : length out - 0 ≡ length out = omega arith in
     record {
       lengths-kept = refl;
       handles-kept = refl;
       out-kept = refl;
       small = h;
       within = omega arith;
-      moved = omega arith;
-      fresh = λ _. refl;
-      exact = refl;
+      exact = rw e;
+      beyond = refl;
     }
+
+abbrev ran : Script → ℕ → ℕ → Ran
+ran s at used = record { next = s; at = at; written = used }
 
 module _ (first : Script) (lengths₀ handles₀ out₀ input : List ℕ) (from : ℕ) (s : Script)
     (lengths handles out : List ℕ) (at used : ℕ)
@@ -98,22 +50,29 @@ module _ (first : Script) (lengths₀ handles₀ out₀ input : List ℕ) (from 
   pub going-within : used ≤ length out
   going-within = g .within
 
-  runs-onward : (from < length input → 160 ≤ length out → from < at)
-      → Runs (scriptState first lengths₀ handles₀) input from (scriptState s lengths handles) at out used
-  runs-onward o = record { within = g .within; exact = g .exact; onward = o }
+  -- nothing more is run
+  going-ends : runFrom (length out - used) (scriptState s lengths handles) input at
+      ≡ ended (scriptState s lengths handles) at []
+      → Runs (ran s at used) lengths handles out₀ out
+      (runFrom (length out₀) (scriptState first lengths₀ handles₀) input from)
+  going-ends e =
+      record {
+        within = g .within;
+        exact = rw (← g .exact, e, append-nil);
+        beyond = g .beyond;
+      }
 
   -- there is no room for another line, or there is no other line
   pub going-full : length out - used < 160
-      → Runs (scriptState first lengths₀ handles₀) input from (scriptState s lengths handles) at out used
-  going-full f = runs-onward (λ h r. go (ltb from at) refl r)
-    where
-      go : (b : Bool) → ltb from at ≡ b → 160 ≤ length out → from < at
-      go true e r = ltb-true from at e
-      go false e r = let u : used ≡ 0 = g .fresh (ltb-false from at e) in absurd (omega arith)
+      → Runs (ran s at used) lengths handles out₀ out
+      (runFrom (length out₀) (scriptState first lengths₀ handles₀) input from)
+  going-full f = going-ends (run-full (length out - used) (scriptState s lengths handles) at _ f)
 
   pub going-all : length input ≤ at
-      → Runs (scriptState first lengths₀ handles₀) input from (scriptState s lengths handles) at out used
-  going-all h = runs-onward (λ l r. omega arith)
+      → Runs (ran s at used) lengths handles out₀ out
+      (runFrom (length out₀) (scriptState first lengths₀ handles₀) input from)
+  going-all h = going-ends (rw (no-line input at h)
+      (run-none (length out - used) (scriptState s lengths handles) at))
 
   -- a line's output fits
   pub line-room : (r : Stepped) (lengths' handles' line : List ℕ) (rule : Made) → 160 ≤ length out - used
@@ -121,39 +80,43 @@ module _ (first : Script) (lengths₀ handles₀ out₀ input : List ℕ) (from 
   line-room r lengths' handles' line rule h v =
       omega (arith, v .short, length-take-le (r .written) line (v .within))
 
-  output-more : (end : ℕ) (r : Stepped) (lengths' handles' line out' : List ℕ) (used' : ℕ) → at < length input
-      → end ≡ endFrom lineFeed input at
-      → Gives r lengths' handles' line (scriptStep (scriptState s lengths handles) (lineAt input at end))
-      → Put out used (take (r .written) line) out' used'
-      → take used out ++ outputFrom (scriptState s lengths handles) (linesOf (drop at input))
-      ≡ take used' out' ++ outputFrom (scriptState (r .next) lengths' handles') (linesOf (drop (end + 1) input))
-  unfolding outputFrom
-  output-more end r lengths' handles' line out' used' h e v p =
-      rw (lines-next input at end e h, ← v .exact, p .holds)
-      (sym (append-assoc (take used out) (take (r .written) line) _))
+  module _ (end : ℕ) (r : Stepped) (lengths' handles' line out' : List ℕ) (used' : ℕ) (h : at < length input)
+      (e : end ≡ endFrom lineFeed input at) (room : 160 ≤ length out - used)
+      (v : Gives r lengths' handles' line (scriptStep (scriptState s lengths handles) (lineAt input at end)))
+      (p : Put out used (take (r .written) line) out' used') where
+    -- the place behind the line, and the room behind its output
+    place-next : at + length (lineAt input at end) + 1 ≡ end + 1
+    place-next = omega (arith, line-length input at end e h)
 
-  pub going-more : (end : ℕ) (r : Stepped) (lengths' handles' line out' : List ℕ) (used' : ℕ) → at < length input
-      → end ≡ endFrom lineFeed input at → 160 ≤ length out - used
-      → Gives r lengths' handles' line (scriptStep (scriptState s lengths handles) (lineAt input at end))
-      → length lengths' ≡ length lengths → length handles' ≡ length handles
-      → Put out used (take (r .written) line) out' used'
-      → Going first lengths₀ handles₀ out₀ input from (r .next) lengths' handles' out' (end + 1) used'
-  going-more end r lengths' handles' line out' used' h e room v l k p =
-      record {
-        lengths-kept = l ∙ g .lengths-kept;
-        handles-kept = k ∙ g .handles-kept;
-        out-kept = p .same ∙ g .out-kept;
-        small = g .small;
-        within = omega (arith, p .behind, p .same, line-room r lengths' handles' line _ room v);
-        moved = omega (arith, g .moved);
-        fresh = λ f. absurd (omega (arith, g .moved));
-        exact = g .exact ∙ output-more end r lengths' handles' line out' used' h e v p;
-      }
+    room-next : length out - used - length (take (r .written) line) ≡ length out' - used'
+    room-next = omega (arith, p .behind, p .same)
 
--- where the input is used up, what is written is all that the lines write
-pub runs-last : (first next : ScriptState) (input : List ℕ) (from at : ℕ) (out : List ℕ) (written : ℕ)
-    → Runs first input from next at out written → length input ≤ at
-    → outputFrom first (linesOf (drop from input)) ≡ take written out
-unfolding outputFrom
-runs-last first next input from at out written r h =
-    r .exact ∙ rw (drop-of-length-le input {i = at} h, no-lines, append-nil)
+    untouched : drop used' out ≡ drop used' out₀
+    untouched = let n = length (take (r .written) line) in
+        rw (p .behind, ← drop-drop n used out, g .beyond) (drop-drop n used out₀)
+
+    run-next : runFrom (length out - used) (scriptState s lengths handles) input at
+        ≡ after (take (r .written) line)
+        (runFrom (length out' - used') (scriptState (r .next) lengths' handles') input (end + 1))
+    run-next =
+        rw (
+          lines-next input at end e h,
+          run-line (length out - used) (scriptState s lengths handles) at (lineAt input at end)
+              (linesOf (drop (end + 1) input)) room,
+          ← v .exact,
+          place-next,
+          room-next,
+        )
+
+    pub going-more : length lengths' ≡ length lengths → length handles' ≡ length handles
+        → Going first lengths₀ handles₀ out₀ input from (r .next) lengths' handles' out' (end + 1) used'
+    going-more l k =
+        record {
+          lengths-kept = l ∙ g .lengths-kept;
+          handles-kept = k ∙ g .handles-kept;
+          out-kept = p .same ∙ g .out-kept;
+          small = g .small;
+          within = omega (arith, p .behind, p .same, line-room r lengths' handles' line _ room v);
+          exact = rw (← g .exact, run-next, p .holds, append-assoc);
+          beyond = p .beyond ∙ untouched;
+        }

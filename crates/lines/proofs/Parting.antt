@@ -14,7 +14,8 @@ use borrow.Author.Tests.{leb-true, leb-false, eqb-true}
 use Rattle.lines.specs.declared.Line.{Line}
 use Rattle.lines.specs.declared.Number.{Number}
 use Rattle.lines.specs.declared.Pair.{Pair}
-use Rattle.lines.specs.Text.{space, before, endFrom, inFront, partsOf}
+use Rattle.lines.specs.Text.{space, before, endFrom, partsOf}
+use Rattle.lines.specs.Places.{parts-cut, parts-whole, parts-some}
 use Rattle.lines.specs.Number.{isDigit, allDigits, numberOf}
 use Rattle.lines.specs.Line.{letterF, letterA, rowOf, arrivalOf, fieldsLine, lineOf, bothOf, pairOf}
 use Rattle.lines.proofs.Digits.{inLength}
@@ -30,45 +31,6 @@ rest-drop text from = take-all (length text - from) (drop from text) (rw length-
 split : (P : Bool → Type 0) (b : Bool) → (b ≡ true → P true) → (b ≡ false → P false) → P b
 split P true here there = here refl
 split P false here there = there refl
-
--- the first part ends at the first mark, and the others are those of what stands behind it
-pub parts-cut : (mark : ℕ) (text : List ℕ) → before mark text < length text
-    → partsOf mark text ≡ take (before mark text) text ∷ partsOf mark (drop (suc (before mark text)) text)
-unfolding before partsOf
-parts-cut mark [] h = absurd (omega arith)
-parts-cut mark (b ∷ bs) h = cut (eqb b mark) b bs mark h (λ l. parts-cut mark bs l)
-  where
-    cut : (t : Bool) (b : ℕ) (bs : List ℕ) (mark : ℕ) → cond t 0 (suc (before mark bs)) < suc (length bs)
-        → (before mark bs < length bs
-        → partsOf mark bs ≡ take (before mark bs) bs ∷ partsOf mark (drop (suc (before mark bs)) bs))
-        → cond t ([] ∷ partsOf mark bs) (inFront b (partsOf mark bs))
-        ≡ take (cond t 0 (suc (before mark bs))) (b ∷ bs)
-        ∷ partsOf mark (drop (suc (cond t 0 (suc (before mark bs)))) (b ∷ bs))
-    cut true b bs mark h on = refl
-    cut false b bs mark h on = rw (on (le-of-suc-le-suc h))
-
--- with no mark there is one part, the text itself
-pub parts-whole : (mark : ℕ) (text : List ℕ) → length text ≤ before mark text → partsOf mark text ≡ text ∷ []
-unfolding before partsOf
-parts-whole mark [] h = refl
-parts-whole mark (b ∷ bs) h = whole (eqb b mark) b bs mark h (λ l. parts-whole mark bs l)
-  where
-    whole : (t : Bool) (b : ℕ) (bs : List ℕ) (mark : ℕ) → suc (length bs) ≤ cond t 0 (suc (before mark bs))
-        → (length bs ≤ before mark bs → partsOf mark bs ≡ bs ∷ [])
-        → cond t ([] ∷ partsOf mark bs) (inFront b (partsOf mark bs)) ≡ (b ∷ bs) ∷ []
-    whole true b bs mark h on = absurd (omega arith)
-    whole false b bs mark h on = rw (on (le-of-suc-le-suc h))
-
--- there is always a part
-pub parts-some : (mark : ℕ) (text : List ℕ) → 1 ≤ length (partsOf mark text)
-unfolding partsOf
-parts-some mark [] = omega arith
-parts-some mark (b ∷ bs) = some (eqb b mark) (partsOf mark bs) (parts-some mark bs)
-  where
-    some : (t : Bool) (ps : List (List ℕ)) → 1 ≤ length ps → 1 ≤ length (cond t ([] ∷ ps) (inFront b ps))
-    some true ps h = omega arith
-    some false [] h = h
-    some false (p ∷ ps) h = omega arith
 
 -- the mark stands where the first part ends
 pub mark-there : (mark : ℕ) (text : List ℕ) → before mark text < length text → getD text (before mark text) 0 ≡ mark

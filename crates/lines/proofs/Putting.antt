@@ -6,7 +6,7 @@ use Prim.Native.Nat.{ℕ, _+_, _-_, _≤_, _<_}
 use native.Mathlib.Numerals.{add-one}
 use native.Mathlib.Omega.{arith}
 use lib.ListN.{length, getD, set, length-set}
-use lib.Seq.{paste, paste-zero, paste-suc, take-paste, take-length}
+use lib.Seq.{paste, paste-zero, paste-suc, take-paste, drop-paste, take-length}
 use Rattle.lines.specs.Text.{Put, Collected}
 
 -- the first i bytes of the text have been put
@@ -34,6 +34,7 @@ module _ (out : List ℕ) (at : ℕ) (text : List ℕ) where
       record {
         behind = ap (λ n. at + n) e;
         holds = rw (p .so-far, e) (take-paste out at text (length text) (omega arith) (omega arith) ∙ rw take-length);
+        beyond = rw (p .so-far, e) (drop-paste out at text (length text) (omega arith) (omega arith));
         same = p .same;
       }
 

@@ -6,7 +6,7 @@ use Prim.Native.Nat.{ℕ, _+_, _-_, _*_, _≤_, _<_}
 use native.Mathlib.Numerals.{add-one}
 use native.Mathlib.Omega.{arith}
 use lib.ListN.{length, getD, set, take, drop, length-set, length-drop}
-use lib.Seq.{take-all, take-suc, take-suc-set, take-length}
+use lib.Seq.{take-all, take-suc, take-suc-set, drop-set-lt, take-length}
 use Rattle.lines.specs.Text.{space, lineFeed, Put}
 use Rattle.lines.specs.Number.{decimal}
 use Rattle.lines.specs.Output.{fieldText, fieldTexts, lineText, Written, Spelt}
@@ -38,7 +38,12 @@ module _ (text : List ℕ) (from number : ℕ) (s : Spelt text from number) wher
       → Put out at (fieldText number) after end
   field-put out after at end h p = let q = rw spelt-digits at (p .behind) in
       let k = rw (spelt-digits, add-one, take-suc-set out at space (omega arith), append-assoc) at (p .holds) in
-      record { behind = omega (arith, q); holds = k; same = p .same ∙ length-set out at space }
+      record {
+        behind = omega (arith, q);
+        holds = k;
+        beyond = p .beyond ∙ drop-set-lt end out at space (omega (arith, q));
+        same = p .same ∙ length-set out at space;
+      }
 
   pub field-end : (out after : List ℕ) (at end : ℕ) → Put (set out at space) (at + 1) (digitsIn text from) after end
       → end ≤ at + 21

@@ -34,10 +34,11 @@ unfoldable pub partsOf : ℕ → List ℕ → List (List ℕ)
 partsOf mark [] = [] ∷ []
 partsOf mark (byte ∷ bytes) = cond (eqb byte mark) ([] ∷ partsOf mark bytes) (inFront byte (partsOf mark bytes))
 
--- `text` stands in `after` from place `at` up to `end`, behind what stood there before
+-- `text` stands in `after` from place `at` up to `end`; before it and behind it stands what stood there before
 pub record Put (out : List ℕ) (at : ℕ) (text after : List ℕ) (end : ℕ) : Type 0 where
   pub behind : end ≡ at + length text
   pub holds : take end after ≡ take at out ++ text
+  pub beyond : drop end after ≡ drop end out
   pub same : length after ≡ length out
 
 -- the text is put where it fits, and where it does not nothing changes

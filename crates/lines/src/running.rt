@@ -1,6 +1,7 @@
 // The lines of an input, one after the other, as many as the output buffer has room for.
+ghost use lib.ListN.{length};
 ghost use Rattle.lines.specs.Step.{scriptState};
-ghost use Rattle.lines.specs.Whole.{Runs};
+ghost use Rattle.lines.specs.Whole.{Runs, runFrom};
 use crate::Ran;
 use crate::Script;
 use crate::text::append;
@@ -16,7 +17,7 @@ impl Script {
         handles: &mut [u32],
         out: &mut [u8],
     ) -> Ran
-        ensures exact { λ r. ⌜ Runs (scriptState self (now (lengths .entry)) (now (handles .entry))) (now (input .entry)) from (scriptState (r .next) (now (lengths .exit)) (now (handles .exit))) (r .at) (now (out .exit)) (r .written) ⌝ }
+        ensures exact { λ r. ⌜ Runs r (now (lengths .exit)) (now (handles .exit)) (now (out .entry)) (now (out .exit)) (runFrom (length (now (out .entry))) (scriptState self (now (lengths .entry)) (now (handles .entry))) (now (input .entry)) from) ⌝ }
     {
         let mut script = self;
         let mut line = [0u8; 160];

@@ -5,9 +5,11 @@ use mathlib.Core.List.{List}
 use Prim.Native.Nat.{ℕ, _-_, _≤_, _<_}
 use native.Mathlib.Omega.{arith}
 use lib.ListN.{length, take}
+use Rattle.lines.specs.declared.Ran.{Ran}
 use Rattle.lines.specs.Ends.{part-length}
 use Rattle.lines.specs.Step.{ScriptState}
-use Rattle.lines.specs.Whole.{Runs}
+use Rattle.lines.specs.Whole.{Ended, Runs, runFrom}
+use Rattle.lines.specs.Running.{runs-onward}
 
 pub record Running (lengths₀ handles₀ out₀ lengths handles out : List ℕ) : Type 0 where
   pub lengths-kept : length lengths ≡ length lengths₀
@@ -15,15 +17,16 @@ pub record Running (lengths₀ handles₀ out₀ lengths handles out : List ℕ)
   pub out-kept : length out ≡ length out₀
   pub room : 160 ≤ length out
 
-module _ (first next : ScriptState) (input : List ℕ) (from at : ℕ) (out : List ℕ) (written : ℕ)
-    (r : Runs first input from next at out written) where
-  pub written-within : written ≤ length out
-  written-within = r .within
+module _ (r : Ran) (lengths handles entry exit : List ℕ) (rule : Ended) (g : Runs r lengths handles entry exit rule) where
+  pub written-within : r .written ≤ length exit
+  written-within = g .within
 
-  pub written-length : written ≡ length (take written out)
-  written-length = part-length written out (r .within)
+  pub written-length : r .written ≡ length (take (r .written) exit)
+  written-length = part-length (r .written) exit (g .within)
 
-  -- less of the input is left
-  pub runs-less : (before : List ℕ) → length out ≡ length before → 160 ≤ length before → from < length input
-      → length input - at < length input - from
-  runs-less before e h l = omega (arith, r .onward l (omega arith))
+-- less of the input is left
+pub runs-less : (r : Ran) (lengths handles entry exit : List ℕ) (s : ScriptState) (input : List ℕ) (from : ℕ)
+    → Runs r lengths handles entry exit (runFrom (length entry) s input from) → 160 ≤ length entry
+    → from < length input → length input - r .at < length input - from
+runs-less r lengths handles entry exit s input from g h l =
+    omega (arith, runs-onward r lengths handles entry exit s input from g h l)

@@ -18,7 +18,7 @@ abbrev μ-loop : tie.MeasureT-loop
     length input - at
 
 loop-holds : tie.Need-loop-holds Inv-loop μ-loop
-loop-holds c = search (needs, going-none)
+loop-holds c = going-none _ _ _ _ _ _ (search needs)
 
 sub-if1 : tie.Need-sub-if1 Inv-loop μ-loop
 sub-if1 c = search (needs, going-within)
