@@ -8,11 +8,9 @@ use Prim.Native.Nat.{ℕ, suc, _+_, _-_, _^_}
 use lib.ListN.{length, replicate}
 use Rattle.reply.specs.Reply.{Reply, idle, done, refused, packet}
 use Rattle.queues.specs.Queue.{queueOf}
-use Rattle.queues.specs.Queues.{blankQueues}
-use Rattle.tags.specs.Ticks.{ticks}
 use Rattle.uplink.specs.declared.Record.{Record}
 use Rattle.uplink.specs.Flow.{Flow, flowOf}
-use Rattle.uplink.specs.Record.{blank, put, linkTime, tagsOf}
+use Rattle.uplink.specs.Record.{blank, put, recordOf}
 use Rattle.uplink.specs.State.{State, state}
 use Rattle.uplink.specs.Calls.{Call, opening, arrival, pick}
 use Rattle.rows.specs.Script.{run, replies}
@@ -32,16 +30,7 @@ putFrom r f (w ∷ ws) = putFrom (put r f w) (suc f) ws
 -- a record: number of flows, Δ, clock, link time, and its flows from number 0 on
 abbrev holding : ℕ → ℕ → ℕ → ℕ → List Flow → Record
 holding flows width clock link =
-    putFrom
-    record {
-      flows = flows;
-      width = width;
-      clock = ticks clock;
-      link = linkTime link;
-      tags = tagsOf (replicate 64 0);
-      queues = blankQueues;
-    }
-    0
+    let zeros : List ℕ = replicate 64 0 in putFrom (recordOf flows width clock link zeros zeros zeros zeros zeros) 0
 
 -- a memory of 4,096 places that begins so
 abbrev memory : List ℕ → List ℕ
