@@ -17,7 +17,9 @@ impl Script {
         handles: &mut [u32],
         out: &mut [u8],
     ) -> Ran
-        ensures exact { λ r. ⌜ Runs r (now (lengths .exit)) (now (handles .exit)) (now (out .entry)) (now (out .exit)) (runFrom (length (now (out .entry))) (scriptState self (now (lengths .entry)) (now (handles .entry))) (now (input .entry)) from) ⌝ }
+        ensures exact { λ r. ⌜ Runs r (now (lengths .exit)) (now (handles .exit)) (now (out .entry)) (now (out .exit))
+            (runFrom (length (now (out .entry))) (scriptState self (now (lengths .entry)) (now (handles .entry)))
+            (now (input .entry)) from) ⌝ }
     {
         let mut script = self;
         let mut line = [0u8; 160];

@@ -39,7 +39,8 @@ fn counted(rows: usize) -> usize
 impl Script {
     // A row goes behind the table's last one; after the 65th the line is bad.
     fn add_row(self, share: u32, largest: u32, out: &mut [u8; 160]) -> Stepped
-        ensures { λ r. ⌜ ((lengths handles : List ℕ) → Gives r lengths handles (now (out .exit)) (rowStep (scriptState self lengths handles) share largest)) ⌝ }
+        ensures { λ r. ⌜ ((lengths handles : List ℕ) → Gives r lengths handles (now (out .exit))
+            (rowStep (scriptState self lengths handles) share largest)) ⌝ }
     {
         let rows = self.rows;
         if 65 <= rows {
@@ -58,7 +59,8 @@ impl Script {
 
     // The rows so far are opened, and stay.
     fn open(self, lengths: &mut [u16], handles: &mut [u32], out: &mut [u8; 160]) -> Stepped
-        ensures { λ r. ⌜ Gives r (now (lengths .exit)) (now (handles .exit)) (now (out .exit)) (openingStep (scriptState self (now (lengths .entry)) (now (handles .entry)))) ⌝ }
+        ensures { λ r. ⌜ Gives r (now (lengths .exit)) (now (handles .exit)) (now (out .exit))
+            (openingStep (scriptState self (now (lengths .entry)) (now (handles .entry)))) ⌝ }
     {
         let shares = self.shares;
         let largest = self.largest;
@@ -81,7 +83,8 @@ impl Script {
         handles: &mut [u32],
         out: &mut [u8; 160],
     ) -> Stepped
-        ensures { λ r. ⌜ Gives r (now (lengths .exit)) (now (handles .exit)) (now (out .exit)) (arrivalStep (scriptState self (now (lengths .entry)) (now (handles .entry))) flow length handle) ⌝ }
+        ensures { λ r. ⌜ Gives r (now (lengths .exit)) (now (handles .exit)) (now (out .exit))
+            (arrivalStep (scriptState self (now (lengths .entry)) (now (handles .entry))) flow length handle) ⌝ }
     {
         let held = self.held;
         let arrived = held.arrival(flow, length, handle, lengths, handles);
@@ -94,7 +97,8 @@ impl Script {
     }
 
     fn pick(self, lengths: &mut [u16], handles: &mut [u32], out: &mut [u8; 160]) -> Stepped
-        ensures { λ r. ⌜ Gives r (now (lengths .exit)) (now (handles .exit)) (now (out .exit)) (pickStep (scriptState self (now (lengths .entry)) (now (handles .entry)))) ⌝ }
+        ensures { λ r. ⌜ Gives r (now (lengths .exit)) (now (handles .exit)) (now (out .exit))
+            (pickStep (scriptState self (now (lengths .entry)) (now (handles .entry)))) ⌝ }
     {
         let held = self.held;
         let picked = held.pick(lengths, handles);
@@ -114,7 +118,8 @@ impl Script {
         handles: &mut [u32],
         out: &mut [u8; 160],
     ) -> Stepped
-        ensures exact { λ r. ⌜ Gives r (now (lengths .exit)) (now (handles .exit)) (now (out .exit)) (scriptStep (scriptState self (now (lengths .entry)) (now (handles .entry))) (now (line .entry))) ⌝ }
+        ensures exact { λ r. ⌜ Gives r (now (lengths .exit)) (now (handles .exit)) (now (out .exit))
+            (scriptStep (scriptState self (now (lengths .entry)) (now (handles .entry))) (now (line .entry))) ⌝ }
     {
         let call = read(line);
         match call {

@@ -143,7 +143,8 @@ module _ (list : List ℕ) where
       record {
         reached = omega arith;
         entered = rw (← field-at list n (omega arith))
-            (copied-more (field64 list) (replicate 64 0) all-64 n entries 0 (rw field-length (omega arith)) (b .entered));
+            (copied-more (field64 list) (replicate 64 0) all-64 n entries 0
+            (rw field-length (omega arith)) (b .entered));
       }
 
   -- past the end of the list every entry is 0

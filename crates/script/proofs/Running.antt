@@ -17,7 +17,8 @@ pub record Running (lengths₀ handles₀ out₀ lengths handles out : List ℕ)
   pub out-kept : length out ≡ length out₀
   pub room : 160 ≤ length out
 
-module _ (r : Ran) (lengths handles entry exit : List ℕ) (rule : Ended) (g : Runs r lengths handles entry exit rule) where
+module _ (r : Ran) (lengths handles entry exit : List ℕ) (rule : Ended)
+    (g : Runs r lengths handles entry exit rule) where
   pub written-within : r .written ≤ length exit
   written-within = g .within
 

@@ -28,7 +28,8 @@ use Rattle.shares.specs.Store.{Joins, store-steady, store-table, store-i
 use Rattle.shares.specs.Serve.{serve-in-time, serve-steady, serve-table, serve-idle, serve-clock-on}
 use Rattle.shares.specs.Serve.{serve-moves}
 use Rattle.shares.specs.Idle.{Nobody, idle-steady, idle-zeroed, idle-table}
-use Rattle.shares.specs.Runs.{somethingWaits, takeRule, Taken, Gives, Plain, chargeIn, chargeFor, valueIn, tagAfter}
+use Rattle.shares.specs.Runs.{somethingWaits, takeRule, Taken, Gives, Plain, chargeIn, chargeFor, valueIn}
+use Rattle.shares.specs.Runs.{tagAfter}
 use Rattle.shares.specs.Opened.{Late, opening-late}
 
 -- a call is refused: with no 1 or 2, and a pick with 10 alone, where something waits and the clock is at its limit

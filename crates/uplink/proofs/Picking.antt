@@ -166,7 +166,8 @@ module _ (r : Record) (lengths handles : List ℕ) (a : Bool) (l : a ≡ lent le
           -- where the flow's tag is the rule's, so is all else
           picked : (tags : List ℕ)
               → tags ≡ set (r .tags .0) (lead .flow) (cond (ltb 1 (waitingOf r (lead .flow)))
-              (frontTag (lead .tag .0) (gone .clock .0) (flowCost (flowAt r (lead .flow))) (gone .behind)) (lead .tag .0))
+              (frontTag (lead .tag .0) (gone .clock .0) (flowCost (flowAt r (lead .flow))) (gone .behind))
+              (lead .tag .0))
               → sent tags ≡ pickRule (state r lengths handles)
           unfolding serveRule servedFlow put leapRule
           picked tags p = served-on _ (rw (

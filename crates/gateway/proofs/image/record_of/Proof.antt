@@ -109,7 +109,8 @@ returns c =
     let second = third .before .before .before .before in
     let first = second .before .before .before .before in
     let tagged = first .before .before .before .before in
-    let start = tagged .before .before .before .before .before .before .before .before .before .before .before .before in
+    let linked = tagged .before .before .before .before .before .before in
+    let start = linked .before .before .before .before .before .before in
     record-read (start .args .words .now) _ _ _ _ _
     (tagged .set-tags .ensures ∙ tagged .before .tags-in .ensures)
     (first .set-field .ensures ∙ first .before .field-in .ensures)
