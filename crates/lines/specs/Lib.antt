@@ -2,7 +2,8 @@
 -- where lines and fields end. `Ends`: what callers use of it. `Number`: numbers read and written. `Line`: what a line
 -- says. `Output`: the line that a reply is written as. `Step`: the state of a script and what a line makes of it.
 -- `Whole`: what the program writes for its input, and what a run of some lines makes. `Places`: the lines of an input
--- at their places. `Running`: laws of a run. `Example`: the document's whole example, computed.
+-- at their places. `Running`: laws of a run. `Example`: the document's whole example, computed. `StandIns`: wrong
+-- readings of a line.
 pub mod Text
 pub mod Ends
 pub mod Number
@@ -13,3 +14,4 @@ pub mod Whole
 pub mod Places
 pub mod Running
 pub mod Example
+pub mod StandIns

@@ -1,22 +1,14 @@
 -- The rules' own outcomes, altered in one thing: a wrong scheduler is the rule but for what it does wrong. Nothing of a
--- rule is said again here. And how two outcomes are told apart: by one number in them.
+-- rule is said again here.
 -- Assumes nothing.
-use mathlib.Core.Path.{_≡_, ap}
-use mathlib.Core.Bool.{false}
 use mathlib.Core.List.{List, [], _∷_}
 use Prim.Native.Nat.{ℕ, _+_}
-use lib.Dec.{eqb}
-use borrow.Author.Tests.{eqb-false}
 use Rattle.reply.specs.Reply.{Reply, idle, done, refused}
 use Rattle.uplink.specs.declared.Record.{Record}
 use Rattle.uplink.specs.Flow.{flowOf}
 use Rattle.uplink.specs.Record.{flowAt, put, moved}
 use Rattle.uplink.specs.State.{State, Outcome, outcome, state}
 use Rattle.uplink.specs.Pick.{pickRule}
-
--- two things differ where some number in them does
-pub apart : {A : Type 0} (look : A → ℕ) (a b : A) → eqb (look a) (look b) ≡ false → a ≡ b → ⊥
-apart look a b differs same = eqb-false (look a) (look b) differs (ap look same)
 
 -- by what a reply is: Idle, done with values, or refused
 abbrev byReply : {A : Type 0} → Reply → A → (List ℕ → A) → A → A

@@ -6,6 +6,7 @@ use Prim.Native.Nat.{ℕ, _+_, _*_, _/_, min, _≤_}
 use native.Mathlib.Omega.{arith}
 use lib.Dec.{eqb}
 use borrow.Author.Tests.{eqb-false, le-ltb}
+use Rattle.below.specs.Truth.{apart}
 use Rattle.cost.specs.Cost.{costOf}
 use Rattle.tags.specs.Ticks.{leaps, leapClock, frontTag}
 use Rattle.uplink.specs.Flow.{flowCost}
@@ -14,7 +15,7 @@ use Rattle.uplink.specs.State.{State, Outcome}
 use Rattle.uplink.specs.Arrival.{arrivalRule}
 use Rattle.uplink.specs.Pick.{serveRule, pickRule}
 use Rattle.rows.specs.Examples.{bothWait, noneWaits, atEquality, afterLeap}
-use Rattle.rows.specs.Altered.{apart, leaping, reheld, retagged, whenDone, whenIdle, whenPicked}
+use Rattle.rows.specs.Altered.{leaping, reheld, retagged, whenDone, whenIdle, whenPicked}
 
 -- "Clamping .. a cost", to 16 bits: P9's share of 10
 abbrev pub clampedCost : ℕ → ℕ

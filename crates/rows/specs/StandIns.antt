@@ -7,6 +7,7 @@ use mathlib.Core.List.{List}
 use Prim.Native.Nat.{ℕ, _+_}
 use lib.Dec.{eqb}
 use lib.ListN.{getD}
+use Rattle.below.specs.Truth.{apart}
 use Rattle.reply.specs.Reply.{Reply, idle, done, refused}
 use Rattle.uplink.specs.declared.Record.{Record}
 use Rattle.uplink.specs.Record.{blank, waitingOf, moved}
@@ -16,7 +17,7 @@ use Rattle.uplink.specs.Arrival.{arrivalRule}
 use Rattle.uplink.specs.Pick.{leapt, serveRule, pickRule}
 use Rattle.uplink.specs.Calls.{everyRule, start}
 use Rattle.rows.specs.Examples.{pair, bothWait, flow1Waits, beforeLeap, flow1Leads}
-use Rattle.rows.specs.Altered.{apart, firstValue, leaping, whenDone, whenPicked}
+use Rattle.rows.specs.Altered.{firstValue, leaping, whenDone, whenPicked}
 
 -- 1 where a reply is a refusal
 abbrev refusals : Reply → ℕ

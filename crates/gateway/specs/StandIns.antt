@@ -1,0 +1,51 @@
+-- Wrong libraries, each the rule's own answer with one thing altered, and a named input at which it leaves the rule.
+-- Assumes nothing.
+use mathlib.Core.Path.{_≡_, refl}
+use mathlib.Core.Bool.{cond}
+use mathlib.Core.List.{List, [], _∷_, _++_}
+use Prim.Native.Nat.{ℕ}
+use lib.Dec.{eqb}
+use lib.ListN.{replicate}
+use Rattle.below.specs.Truth.{apart}
+use Rattle.uplink.specs.Calls.{everyRule}
+use Rattle.gateway.specs.Image.{fieldWords, fieldIn, wordsOf, recordOf}
+use Rattle.gateway.specs.Gateway.{Lent, Answered, lending, answered, told}
+use Rattle.gateway.specs.Gateway.{gatewayOpening, gatewayPick, gatewayDepth}
+
+-- what a caller lends to an opening: a block of so many words, and both memories
+abbrev fresh : ℕ → Lent
+fresh words = lending (replicate words 1) (replicate 4096 0) (replicate 4096 0) []
+
+-- and what he lends after it, with a reply of so many words: two flows of share 500 and largest packet 100
+abbrev opened : ℕ → Lent
+opened words = let left = gatewayOpening (500 ∷ 500 ∷ []) (100 ∷ 100 ∷ []) (fresh 131) .left in
+    lending (left .block) (left .lengths) (left .handles) (replicate words 0)
+
+-- "record has not exactly UPLINK_RECORD_WORDS words": a block of 130 words is taken for one of 131
+abbrev pub takes130 : List ℕ → List ℕ → Lent → Answered
+takes130 shares largest lent =
+    gatewayOpening shares largest (lending (lent .block ++ 0 ∷ []) (lent .lengths) (lent .handles) (lent .reply))
+
+pub takes-130-differs : takes130 (500 ∷ []) (100 ∷ []) (fresh 130) ≡ gatewayOpening (500 ∷ []) (100 ∷ []) (fresh 130)
+    → ⊥
+unfolding everyRule told gatewayOpening wordsOf fieldWords
+takes-130-differs = apart (λ a. a .answer) _ _ refl
+
+-- "UPLINK_IDLE": a pick on which nothing waits is told as done, with no packet
+abbrev pub idleIsDone : Lent → Answered
+idleIsDone lent = let a = gatewayPick lent in cond (eqb (a .answer) 100) (answered 0 (a .left)) a
+
+pub idle-is-done-differs : idleIsDone (opened 6) ≡ gatewayPick (opened 6) → ⊥
+unfolding everyRule told gatewayOpening gatewayPick wordsOf recordOf fieldWords fieldIn
+idle-is-done-differs = apart (λ a. a .answer) _ _ refl
+
+-- "no such flow": the depth of a flow past the last is told as 0, here of flow 2 of two
+abbrev pub depthPastLast : ℕ → Lent → Answered
+depthPastLast flow lent = let a = gatewayDepth flow lent in
+    cond (eqb (a .answer) 7)
+    (answered 0 (lending (lent .block) (lent .lengths) (lent .handles) (replicate 4 0)))
+    a
+
+pub depth-past-last-differs : depthPastLast 2 (opened 4) ≡ gatewayDepth 2 (opened 4) → ⊥
+unfolding everyRule told gatewayOpening gatewayDepth wordsOf recordOf fieldWords fieldIn
+depth-past-last-differs = apart (λ a. a .answer) _ _ refl
