@@ -13,7 +13,7 @@ use Rattle.reply.specs.Reply.{Reply, idle, done, refused}
 use Rattle.queues.specs.Opening.{field64, listsReply}
 use Rattle.uplink.specs.Record.{blank}
 use Rattle.uplink.specs.State.{State}
-use Rattle.uplink.specs.Opening.{openedBy, openingRule}
+use Rattle.uplink.specs.Opening.{openedBy, openingRule, opened-reply}
 use Rattle.uplink.specs.Arrival.{arrivalRule}
 use Rattle.uplink.specs.Pick.{pickRule}
 use Rattle.gateway.specs.Image.{fieldWords, wordsOf}
@@ -37,12 +37,6 @@ opened-blank shares largest lent idle n = rw blank-words
 opened-blank shares largest lent (done values) n = absurd (n refl)
 opened-blank shares largest lent (refused number flow) n = rw blank-words
 
-by-reply : (shares largest lengths handles : List ℕ) (reply : Reply)
-    → openedBy reply shares largest lengths handles .reply ≡ reply
-by-reply shares largest lengths handles idle = refl
-by-reply shares largest lengths handles (done values) = refl
-by-reply shares largest lengths handles (refused number flow) = refl
-
 -- an opening of a block of 131 words that is not done leaves 131 words of 0, and the rest as it came
 pub refused-opening : (shares largest : List ℕ) (lent : Lent) → length (lent .block) ≡ 131
     → (gatewayOpening shares largest lent .answer ≡ 0 → ⊥)
@@ -53,7 +47,7 @@ refused-opening shares largest lent h n =
     let reply = listsReply shares largest (lent .lengths) (lent .handles) in
     let block = eq-eqb (length (lent .block)) 131 h in
     rw block (opened-blank shares largest lent reply
-    (rw (block, by-reply shares largest (lent .lengths) (lent .handles) reply) at n))
+    (rw (block, opened-reply reply shares largest (lent .lengths) (lent .handles)) at n))
 
 -- the answer of a refusal: neither done nor idle
 abbrev Refused : Answered → Type 0

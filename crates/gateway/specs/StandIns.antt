@@ -5,21 +5,21 @@ use mathlib.Core.Bool.{cond}
 use mathlib.Core.List.{List, [], _∷_, _++_}
 use Prim.Native.Nat.{ℕ}
 use lib.Dec.{eqb}
-use lib.ListN.{replicate}
+use lib.ListN.{replicate, getD}
 use Rattle.below.specs.Truth.{apart}
 use Rattle.uplink.specs.Calls.{everyRule}
 use Rattle.gateway.specs.Image.{fieldWords, fieldIn, wordsOf, recordOf}
 use Rattle.gateway.specs.Gateway.{Lent, Answered, lending, answered, told}
-use Rattle.gateway.specs.Gateway.{gatewayOpening, gatewayPick, gatewayDepth}
+use Rattle.gateway.specs.Gateway.{gatewayOpening, gatewayArrival, gatewayPick, gatewayDepth}
 
 -- what a caller lends to an opening: a block of so many words, and both memories
 abbrev fresh : ℕ → Lent
 fresh words = lending (replicate words 1) (replicate 4096 0) (replicate 4096 0) []
 
--- and what he lends after it, with a reply of so many words: two flows of share 500 and largest packet 100
+-- and after it, with a reply of so many words: two flows of share 500 and largest packet 100
 abbrev opened : ℕ → Lent
 opened words = let left = gatewayOpening (500 ∷ 500 ∷ []) (100 ∷ 100 ∷ []) (fresh 131) .left in
-    lending (left .block) (left .lengths) (left .handles) (replicate words 0)
+    lending (left .block) (left .lengths) (left .handles) (replicate words 1)
 
 -- "record has not exactly UPLINK_RECORD_WORDS words": a block of 130 words is taken for one of 131
 abbrev pub takes130 : List ℕ → List ℕ → Lent → Answered
@@ -30,6 +30,23 @@ pub takes-130-differs : takes130 (500 ∷ []) (100 ∷ []) (fresh 130) ≡ gatew
     → ⊥
 unfolding everyRule told gatewayOpening wordsOf fieldWords
 takes-130-differs = apart (λ a. a .answer) _ _ refl
+
+-- "no such flow": a refused arrival is told as done, here at flow 2 of two
+abbrev pub refusedIsDone : ℕ → ℕ → ℕ → Lent → Answered
+refusedIsDone flow length handle lent = answered 0 (gatewayArrival flow length handle lent .left)
+
+pub refused-is-done-differs : refusedIsDone 2 100 7 (opened 0) ≡ gatewayArrival 2 100 7 (opened 0) → ⊥
+unfolding everyRule told gatewayOpening gatewayArrival wordsOf recordOf fieldWords fieldIn
+refused-is-done-differs = apart (λ a. a .answer) _ _ refl
+
+-- "with any other answer no word of reply changes": a pick clears the reply first, here at Idle
+abbrev pub clearsReply : Lent → Answered
+clearsReply lent = let a = gatewayPick lent in
+    answered (a .answer) (lending (a .left .block) (a .left .lengths) (a .left .handles) (replicate 6 0))
+
+pub clears-reply-differs : clearsReply (opened 6) ≡ gatewayPick (opened 6) → ⊥
+unfolding everyRule told gatewayOpening gatewayPick wordsOf recordOf fieldWords fieldIn
+clears-reply-differs = apart (λ a. getD (a .left .reply) 0 0) _ _ refl
 
 -- "UPLINK_IDLE": a pick on which nothing waits is told as done, with no packet
 abbrev pub idleIsDone : Lent → Answered

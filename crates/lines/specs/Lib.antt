@@ -3,7 +3,7 @@
 -- says. `Output`: the line that a reply is written as. `Step`: the state of a script and what a line makes of it.
 -- `Whole`: what the program writes for its input, and what a run of some lines makes. `Places`: the lines of an input
 -- at their places. `Running`: laws of a run. `Example`: the document's whole example, computed. `StandIns`: wrong
--- readings of a line.
+-- readings and a wrong run.
 pub mod Text
 pub mod Ends
 pub mod Number

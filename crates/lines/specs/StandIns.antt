@@ -1,4 +1,4 @@
--- Wrong readings of a line, each made of the rule itself, and a named input at which it leaves the rule.
+-- Wrong readings of a line and a wrong run, each made of the rule itself, and a named input at which it leaves the rule.
 -- Assumes nothing.
 use mathlib.Core.Path.{_≡_, refl}
 use mathlib.Core.Bool.{cond}
@@ -12,7 +12,8 @@ use Rattle.lines.specs.declared.Line.{Line}
 use Rattle.lines.specs.Text.{partsOf}
 use Rattle.lines.specs.Number.{allDigits, valueFrom, numberOf}
 use Rattle.lines.specs.Line.{lineOf}
-use Rattle.lines.specs.Step.{ScriptState, Made, badStep, rowStep}
+use Rattle.lines.specs.Step.{ScriptState, Made, badStep, rowStep, scriptStep}
+use Rattle.lines.specs.Whole.{Ended, ended, noEmptyRest, runLines, runFrom}
 
 -- 0 where a line is bad
 abbrev said : Line → ℕ
@@ -42,3 +43,12 @@ rows64 = record { shares = replicate 64 1; largest = replicate 64 1; held = star
 pub refuses-65-differs : refuses65 rows64 1 1 ≡ rowStep rows64 1 1 → ⊥
 unfolding rowStep
 refuses-65-differs = apart (λ m. length (m .output)) _ _ refl
+
+-- a run that wants room for two lines, and so leaves a line that there is room for
+abbrev pub wantsMoreRoom : ℕ → ScriptState → List ℕ → ℕ → Ended
+wantsMoreRoom room s input from = cond (ltb room 320) (ended s from []) (runFrom room s input from)
+
+-- the line x, with room for one line
+pub wants-more-room-differs : wantsMoreRoom 160 rows64 (120 ∷ []) 0 ≡ runFrom 160 rows64 (120 ∷ []) 0 → ⊥
+unfolding runLines noEmptyRest scriptStep lineOf partsOf
+wants-more-room-differs = apart (λ e. e .at) _ _ refl

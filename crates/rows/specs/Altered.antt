@@ -1,8 +1,9 @@
 -- The rules' own outcomes, altered in one thing: a wrong scheduler is the rule but for what it does wrong. Nothing of a
 -- rule is said again here.
 -- Assumes nothing.
-use mathlib.Core.List.{List, [], _∷_}
+use mathlib.Core.List.{List}
 use Prim.Native.Nat.{ℕ, _+_}
+use lib.ListN.{getD}
 use Rattle.reply.specs.Reply.{Reply, idle, done, refused}
 use Rattle.uplink.specs.declared.Record.{Record}
 use Rattle.uplink.specs.Flow.{flowOf}
@@ -28,14 +29,9 @@ whenDone alter o = byReply (o .reply) o (λ values. holding alter o) o
 abbrev pub whenIdle : (Record → Record) → Outcome → Outcome
 whenIdle alter o = byReply (o .reply) (holding alter o) (λ values. o) o
 
--- the first value of a reply: the flow of a pick
-abbrev pub firstValue : List ℕ → ℕ
-firstValue [] = 0
-firstValue (value ∷ values) = value
-
--- the rule's pick, but that where it takes a flow another step is made there
+-- the rule's pick, but that where it takes a flow, the first value of its reply, another step is made there
 abbrev pub whenPicked : (State → ℕ → Outcome) → State → Outcome
-whenPicked step s = byReply (pickRule s .reply) (pickRule s) (λ values. step s (firstValue values)) (pickRule s)
+whenPicked step s = byReply (pickRule s .reply) (pickRule s) (λ values. step s (getD values 0 0)) (pickRule s)
 
 -- the record with another tag at flow f
 abbrev pub retagged : ℕ → ℕ → Record → Record

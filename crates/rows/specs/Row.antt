@@ -28,7 +28,7 @@ pub data Claim : Type 0 where
   costIs : ℕ → ℕ → Claim
   -- with this Δ, and at this clock and tag T, step 3 of a pick leaves this clock
   leapIs : ℕ → ℕ → ℕ → Claim
-  -- every number in the record is 0
+  -- every number in the record, 4 and for each of 64 flows 5, is 0
   recordIsBlank : Claim
   -- the record is as it came
   recordStays : Claim

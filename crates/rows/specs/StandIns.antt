@@ -17,7 +17,7 @@ use Rattle.uplink.specs.Arrival.{arrivalRule}
 use Rattle.uplink.specs.Pick.{leapt, serveRule, pickRule}
 use Rattle.uplink.specs.Calls.{everyRule, start}
 use Rattle.rows.specs.Examples.{pair, bothWait, flow1Waits, beforeLeap, flow1Leads}
-use Rattle.rows.specs.Altered.{firstValue, leaping, whenDone, whenPicked}
+use Rattle.rows.specs.Altered.{leaping, whenDone, whenPicked}
 
 -- 1 where a reply is a refusal
 abbrev refusals : Reply → ℕ
@@ -28,7 +28,7 @@ refusals (refused number flow) = 1
 -- the flow that a pick's reply tells
 abbrev flowTold : Reply → ℕ
 flowTold idle = 0
-flowTold (done values) = firstValue values
+flowTold (done values) = getD values 0 0
 flowTold (refused number flow) = 0
 
 -- the clock of a record

@@ -20,18 +20,11 @@ use Rattle.uplink.specs.Flow.{flowOf, spareFlow}
 use Rattle.uplink.specs.Record.{flowAt, tagOf, waitingOf, rested-at}
 use Rattle.uplink.specs.State.{State, state}
 use Rattle.uplink.specs.Formed.{Formed, FlowFormed, no-flow-spare}
-use Rattle.uplink.specs.Opening.{newRecord, openedBy, openingRule}
+use Rattle.uplink.specs.Opening.{newRecord, openedBy, openingRule, opened-reply}
 use Rattle.uplink.specs.declared.Record.{Record}
 use Rattle.shares.specs.Runs.{openingIn}
 use Rattle.shares.specs.Keep.{reset-good}
 use Rattle.shares.specs.Bridge.{Steady, Zeroed, tableOf, charge-idle}
-
--- the reply of an opening is that of its lists
-opened-reply : (reply : Reply) (shares largest lengths handles : List ℕ)
-    → openedBy reply shares largest lengths handles .reply ≡ reply
-opened-reply idle shares largest lengths handles = refl
-opened-reply (done values) shares largest lengths handles = refl
-opened-reply (refused number flow) shares largest lengths handles = refl
 
 module _ (shares largest : List ℕ) where
   -- the record and the state that an accepted opening gives

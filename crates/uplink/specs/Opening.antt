@@ -1,6 +1,7 @@
 -- The rule of an opening: document 01, "The three calls" and the order of refusals 1, 3, then flow by flow 4 and 5,
 -- then 6. What is refused is the queue's side (crate `queues`, specs/Opening.antt).
 -- Assumes nothing.
+use mathlib.Core.Path.{_≡_, refl}
 use mathlib.Core.List.{List}
 use Prim.Native.Nat.{ℕ}
 use lib.ListN.{length, replicate}
@@ -35,3 +36,10 @@ openedBy idle shares largest lengths handles = outcome idle blank lengths handle
 unfoldable pub openingRule : List ℕ → List ℕ → List ℕ → List ℕ → Outcome
 openingRule shares largest lengths handles =
     openedBy (listsReply shares largest lengths handles) shares largest lengths handles
+
+-- an opening gives the reply that it is made by
+pub opened-reply : (reply : Reply) (shares largest lengths handles : List ℕ)
+    → openedBy reply shares largest lengths handles .reply ≡ reply
+opened-reply idle shares largest lengths handles = refl
+opened-reply (done values) shares largest lengths handles = refl
+opened-reply (refused number flow) shares largest lengths handles = refl
