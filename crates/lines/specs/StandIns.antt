@@ -1,4 +1,4 @@
--- Wrong readings of a line and a wrong run, each made of the rule itself, and a named input at which it leaves the rule.
+-- Wrong readings of a line and a wrong run, each made of the rule itself, and a named input where it leaves the rule.
 -- Assumes nothing.
 use mathlib.Core.Path.{_≡_, refl}
 use mathlib.Core.Bool.{cond}
