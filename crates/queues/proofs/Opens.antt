@@ -2,7 +2,7 @@
 -- the 64 entries of a list.
 -- Assumes nothing.
 use mathlib.Core.Path.{_≡_, refl, sym, ap, ap₂, _∙_}
-use mathlib.Core.Bool.{Bool, true, false, not, cond}
+use mathlib.Core.Bool.{Bool, true, false, not, cond, _&&_}
 use mathlib.Core.List.{List, [], _++_, append-nil}
 use Prim.Native.Nat.{ℕ, suc, _+_, _-_, _*_, _≤_, _<_}
 use native.Mathlib.Nat.{sub-zero}
@@ -163,24 +163,26 @@ module _ (list : List ℕ) where
       ∙ rw take-append-drop
 
 -- the ways through 1, 3 and the table's reply
-module _ (shares largest lengths handles : List ℕ) where
+module _ (shares largest : List ℕ) (header : ℕ) (lengths handles : List ℕ) where
   pub unlent : (b : Bool) → b ≡ lent lengths handles → not b ≡ true
-      → refused 1 0 ≡ listsReply shares largest lengths handles
+      → refused 1 0 ≡ listsReply shares largest header lengths handles
   unfolding listsReply
   unlent b e h = rw (← e, not-true b h)
 
   module _ (b : Bool) (e : b ≡ lent lengths handles) (on : not b ≡ false) where
-    pub unpaired : not (paired shares largest) ≡ true → refused 3 0 ≡ listsReply shares largest lengths handles
+    pub unpaired : not (paired shares largest header) ≡ true → refused 3 0 ≡ listsReply shares largest header lengths handles
     unfolding listsReply
-    unpaired h = rw (← e, not-false b on, not-true (paired shares largest) h)
+    unpaired h = rw (← e, not-false b on, not-true (paired shares largest header) h)
 
-    pub as-the-table : (r : Reply) → not (paired shares largest) ≡ false → r ≡ tableReply shares largest
-        → r ≡ listsReply shares largest lengths handles
+    pub as-the-table : (r : Reply) → not (paired shares largest header) ≡ false → r ≡ tableReply shares largest
+        → r ≡ listsReply shares largest header lengths handles
     unfolding listsReply
-    as-the-table r h q = rw (← e, not-false b on, not-false (paired shares largest) h) q
+    as-the-table r h q = rw (← e, not-false b on, not-false (paired shares largest header) h) q
 
-pub paired-lists : (shares largest : List ℕ) → not (paired shares largest) ≡ false
+pub paired-lists : (shares largest : List ℕ) (header : ℕ) → not (paired shares largest header) ≡ false
     → (length shares ≡ length largest) × (length shares ≤ 64)
-paired-lists shares largest e =
-    let b = both-true (eqb (length shares) (length largest)) _ (not-false (paired shares largest) e) in
+paired-lists shares largest header e =
+    let pair = both-true (eqb (length shares) (length largest) && within 1 64 (length shares)) _
+    (not-false (paired shares largest header) e) .0 in
+    let b = both-true (eqb (length shares) (length largest)) _ pair in
     (eqb-true _ _ (b .0), within-bounds 1 64 (length shares) (b .1) .1)

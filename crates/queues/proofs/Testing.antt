@@ -13,7 +13,7 @@ use borrow.Author.Tests.{not-true, not-false, le-leb, lt-leb}
 use Rattle.below.specs.Below.{allBelow, allBelow-at, sumBelow, sumBelow-more, mostBelow, mostBelow-more}
 use Rattle.below.specs.Faults.{four-faults, not-over, fault-turn, rest-turn, both-below}
 use Rattle.cost.specs.Cost.{within, within-of, costOf}
-use Rattle.cost.specs.Charge.{chargeTicks}
+use Rattle.cost.specs.Charge.{isHeader, chargeOf, chargeTicks}
 use Rattle.queues.specs.Queue.{bookedTicks}
 use Rattle.queues.specs.Queues.{queuesOf, queueAt, sharesOf, widthOf}
 use Rattle.queues.specs.Form.{booked, placed, ranged, queueFormed, spareQueue, tabled, queuesFormed, queuesSpare}
@@ -80,12 +80,12 @@ pub sum-turn : (share : List ℕ) (n sum q : ℕ) → q ≡ getD share n 0 → s
 sum-turn share n sum q h e = rw (sumBelow-more, ← e, h)
 
 -- and of the leap width
-module _ (share largest : List ℕ) where
+module _ (header : ℕ) (share largest : List ℕ) where
   abbrev pub ticksAt : ℕ → ℕ
-  ticksAt f = bookedTicks (getD share f 0) (getD largest f 0)
+  ticksAt f = bookedTicks header (getD share f 0) (getD largest f 0)
 
   pub width-turn : (n width cost ticks next : ℕ) → width ≡ mostBelow ticksAt n → cost ≡ costOf (getD share n 0)
-      → ticks ≡ chargeTicks cost (getD largest n 0) → next ≡ max width ticks → next ≡ mostBelow ticksAt (n + 1)
+      → ticks ≡ chargeTicks cost (chargeOf header (getD largest n 0)) → next ≡ max width ticks → next ≡ mostBelow ticksAt (n + 1)
   width-turn n width cost ticks next e p q m = rw (mostBelow-more, ← e, ← p, ← q) m
 
 -- the bullets' order and the order of the test
@@ -104,7 +104,7 @@ regroup true true false queue true true spare = refl
 regroup true true false queue true false spare = refl
 regroup true true false queue false width spare = refl
 
-module _ (flows width : ℕ) (q : Queues) (lengths : List ℕ) where
+module _ (flows header width : ℕ) (q : Queues) (lengths : List ℕ) where
   abbrev ranges : Bool
   ranges = allBelow (rangedAt (q .share) (q .largest) (q .first) (q .waiting)) flows
 
@@ -114,41 +114,45 @@ module _ (flows width : ℕ) (q : Queues) (lengths : List ℕ) where
   abbrev sums : Bool
   sums =
       leb (sumBelow (λ f. getD (q .share) f 0) flows) 1000
-      && eqb (mostBelow (ticksAt (q .share) (q .largest)) flows) width
+      && eqb (mostBelow (ticksAt header (q .share) (q .largest)) flows) width
 
   -- the whole, in the order of the test
-  tested : queueSide flows width q lengths ≡ (within 1 64 flows && ranges && queued && (sums && queuesSpare flows q))
+  tested : queueSide flows header width q lengths
+      ≡ ((within 1 64 flows && isHeader header) && ranges && queued && (sums && queuesSpare flows q))
   unfolding tabled queuesFormed ranged sharesOf widthOf
   tested =
-      ap (λ b. tabled flows width q && b && queuesSpare flows q)
+      ap (λ b. tabled flows header width q && b && queuesSpare flows q)
       (sym (both-below (λ f. placed (queueAt q f)) (λ f. queueFormed f lengths (queueAt q f)) flows))
-      ∙ regroup (within 1 64 flows) (allBelow (λ f. booked (queueAt q f)) flows)
+      ∙ regroup (within 1 64 flows && isHeader header) (allBelow (λ f. booked (queueAt q f)) flows)
       (allBelow (λ f. placed (queueAt q f)) flows) queued
       (leb (sumBelow (λ f. getD (q .share) f 0) flows) 1000)
-      (eqb (mostBelow (ticksAt (q .share) (q .largest)) flows) width) (queuesSpare flows q)
-      ∙ ap (λ b. within 1 64 flows && b && queued && (sums && queuesSpare flows q))
+      (eqb (mostBelow (ticksAt header (q .share) (q .largest)) flows) width) (queuesSpare flows q)
+      ∙ ap (λ b. (within 1 64 flows && isHeader header) && b && queued && (sums && queuesSpare flows q))
       (both-below (λ f. booked (queueAt q f)) (λ f. placed (queueAt q f)) flows)
 
-  pub no-flows : flows < 1 → false ≡ queueSide flows width q lengths
+  pub no-flows : flows < 1 → false ≡ queueSide flows header width q lengths
   no-flows h = sym (tested ∙ rw (lt-leb 1 flows h))
 
-  pub many-flows : 1 ≤ flows → 64 < flows → false ≡ queueSide flows width q lengths
+  pub many-flows : 1 ≤ flows → 64 < flows → false ≡ queueSide flows header width q lengths
   many-flows s h = sym (tested ∙ rw (le-leb 1 flows s, lt-leb flows 64 h))
 
-  module _ (some : 1 ≤ flows) (few : flows ≤ 64) where
-    sized : within 1 64 flows ≡ true
-    sized = within-of 1 64 flows some few
+  pub long-header : 1 ≤ flows → flows ≤ 64 → 64 < header → false ≡ queueSide flows header width q lengths
+  long-header s l h = sym (tested ∙ rw (within-of 1 64 flows s l, lt-leb header 64 h))
 
-    pub ranges-bad : (b : Bool) → b ≡ ranges → not b ≡ true → false ≡ queueSide flows width q lengths
+  module _ (some : 1 ≤ flows) (few : flows ≤ 64) (short : header ≤ 64) where
+    sized : (within 1 64 flows && isHeader header) ≡ true
+    sized = rw (within-of 1 64 flows some few, le-leb header 64 short)
+
+    pub ranges-bad : (b : Bool) → b ≡ ranges → not b ≡ true → false ≡ queueSide flows header width q lengths
     ranges-bad b e h = sym (tested ∙ rw (sized, ← e, not-true b h))
 
     pub queued-bad : (b c : Bool) → b ≡ ranges → not b ≡ false → c ≡ queued → not c ≡ true
-        → false ≡ queueSide flows width q lengths
+        → false ≡ queueSide flows header width q lengths
     queued-bad b c e h k t = sym (tested ∙ rw (sized, ← e, not-false b h, ← k, not-true c t))
 
     pub as-the-rest : (b c d : Bool) (sum most : ℕ) → b ≡ ranges → not b ≡ false → c ≡ queued → not c ≡ false
-        → sum ≡ sumBelow (λ f. getD (q .share) f 0) flows → most ≡ mostBelow (ticksAt (q .share) (q .largest)) flows
+        → sum ≡ sumBelow (λ f. getD (q .share) f 0) flows → most ≡ mostBelow (ticksAt header (q .share) (q .largest)) flows
         → d ≡ queuesSpare flows q
-        → ((leb sum 1000 && eqb most width) && d) ≡ queueSide flows width q lengths
+        → ((leb sum 1000 && eqb most width) && d) ≡ queueSide flows header width q lengths
     as-the-rest b c d sum most e h k t s m r =
         sym (tested ∙ rw (sized, ← e, not-false b h, ← k, not-false c t, ← s, ← m, ← r))

@@ -9,6 +9,7 @@ use lib.Dec.{leb, ltb, eqb}
 use lib.ListN.{getD}
 use Rattle.below.specs.Below.{allBelow}
 use Rattle.cost.specs.Cost.{within}
+use Rattle.cost.specs.Charge.{isHeader}
 use Rattle.queues.specs.Queue.{Queue, placeOf}
 use Rattle.queues.specs.Queues.{queueAt, sharesOf, widthOf}
 use Rattle.queues.specs.declared.Queues.{Queues}
@@ -40,13 +41,14 @@ queueFormed f lengths w = lengthsFormed f lengths (w .largest) (w .first) (w .wa
 unfoldable pub spareQueue : Queue → Bool
 spareQueue w = (eqb (w .share) 0 && eqb (w .largest) 0) && (eqb (w .first) 0 && eqb (w .waiting) 0)
 
--- "1 to 64 flows; shares 1 to 1,000 with sum at most 1,000; largest packets 1 to 1,500; Δ as above"
-unfoldable pub tabled : ℕ → ℕ → Queues → Bool
-tabled flows width q =
-    within 1 64 flows
+-- "1 to 64 flows; shares 1 to 1,000 with sum at most 1,000; largest packets 1 to 1,500; Δ as above"; and of the header
+-- (02 a) "its stated range as part of the form"
+unfoldable pub tabled : ℕ → ℕ → ℕ → Queues → Bool
+tabled flows header width q =
+    (within 1 64 flows && isHeader header)
     && allBelow (λ f. booked (queueAt q f)) flows
     && leb (sharesOf q flows) 1000
-    && eqb (widthOf q flows) width
+    && eqb (widthOf header q flows) width
 
 -- "first and number waiting in range; every waiting length from 1 to the flow's largest"
 unfoldable pub queuesFormed : ℕ → Queues → List ℕ → Bool
@@ -57,5 +59,6 @@ unfoldable pub queuesSpare : ℕ → Queues → Bool
 queuesSpare flows q = allBelow (λ f. counts flows f || spareQueue (queueAt q f)) 64
 
 -- all that the form asks of the queue's side
-abbrev pub queueSide : ℕ → ℕ → Queues → List ℕ → Bool
-queueSide flows width q lengths = tabled flows width q && queuesFormed flows q lengths && queuesSpare flows q
+abbrev pub queueSide : ℕ → ℕ → ℕ → Queues → List ℕ → Bool
+queueSide flows header width q lengths =
+    tabled flows header width q && queuesFormed flows q lengths && queuesSpare flows q

@@ -124,11 +124,11 @@ join-done flows f n largest waiting =
     join-cases flows f n largest waiting (λ reply. reply ≡ done [] → Joinable flows f n largest waiting)
     (λ taken _. taken) (λ number low high e. refused-done e)
 
--- no leap width is above 1,080,000,000 where no largest packet is above 1,500
-pub width-at-most : (share largest : ℕ → ℕ) (n : ℕ) → ((f : ℕ) → f < n → largest f ≤ 1500)
-    → mostBelow (λ f. bookedTicks (share f) (largest f)) n ≤ 1080000000
-width-at-most share largest n small =
-    mostBelow-le _ n 1080000000 λ f h. mul-le-mul {n₂ = 1500} (small f h) (cost-most (share f))
+-- no leap width is above 1,126,080,000 where no header is above 64 and no largest packet above 1,500
+pub width-at-most : (header : ℕ) (share largest : ℕ → ℕ) (n : ℕ) → header ≤ 64 → ((f : ℕ) → f < n → largest f ≤ 1500)
+    → mostBelow (λ f. bookedTicks header (share f) (largest f)) n ≤ 1126080000
+width-at-most header share largest n short small =
+    mostBelow-le _ n 1126080000 λ f h. mul-le-mul {n₂ = 1564} (omega (arith, small f h)) (cost-most (share f))
 
 -- nothing stands at any place of a list of zeros
 pub zeros-at : (n k : ℕ) → _≡_ {A = ℕ} (getD (replicate n 0) k 0) 0

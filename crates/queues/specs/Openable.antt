@@ -2,7 +2,7 @@
 -- Every engine's opening, and the proofs over an opened table, draw on it.
 -- Assumes nothing.
 use mathlib.Core.Path.{_≡_, refl}
-use mathlib.Core.Bool.{Bool, true, false, cond}
+use mathlib.Core.Bool.{Bool, true, false, cond, _&&_}
 use mathlib.Core.List.{List, []}
 use Prim.Native.Nat.{ℕ, zero, suc, _+_, _≤_, _<_}
 use native.Mathlib.Decide.{ℕ-discrete}
@@ -30,14 +30,15 @@ pub record InRange (shares largest : List ℕ) (f : ℕ) : Type 0 where
   pub largest-low : 1 ≤ getD largest f 0
   pub largest-high : getD largest f 0 ≤ 1500
 
--- two memories of 4,096 places, and lists of one length, 1 to 64, with every number in range and shares of at most
--- 1,000
-pub record Openable (shares largest lengths handles : List ℕ) : Type 0 where
+-- two memories of 4,096 places, lists of one length, 1 to 64, with every number in range and shares of at most 1,000,
+-- and a header of at most 64
+pub record Openable (shares largest : List ℕ) (header : ℕ) (lengths handles : List ℕ) : Type 0 where
   pub lengths-lent : length lengths ≡ 4096
   pub handles-lent : length handles ≡ 4096
   pub paired-lists : length shares ≡ length largest
   pub some : 1 ≤ length shares
   pub few : length shares ≤ 64
+  pub short : header ≤ 64
   pub each : (f : ℕ) → f < length shares → InRange shares largest f
   pub sum : sharesOf (newQueues shares largest) (length shares) ≤ 1000
 
@@ -84,14 +85,15 @@ module _ (shares largest : List ℕ) where
       leb-true _ 1000 (passed (leb (sharesOf (newQueues shares largest) (length shares)) 1000) (done []) 6 0
       (went-on (faultFrom shares largest 0 (length shares)) _ e) .0)
 
-  pub openable : (lengths handles : List ℕ) → listsReply shares largest lengths handles ≡ done []
-      → Openable shares largest lengths handles
+  pub openable : (header : ℕ) (lengths handles : List ℕ) → listsReply shares largest header lengths handles ≡ done []
+      → Openable shares largest header lengths handles
   unfolding listsReply
-  openable lengths handles e =
+  openable header lengths handles e =
       let first = passed (lent lengths handles) _ 1 0 e in
-      let second = passed (paired shares largest) _ 3 0 (first .1) in
+      let second = passed (paired shares largest header) _ 3 0 (first .1) in
       let lend = both-true (eqb (length lengths) 4096) _ (first .0) in
-      let pair = both-true (eqb (length shares) (length largest)) _ (second .0) in
+      let three = both-true (eqb (length shares) (length largest) && within 1 64 (length shares)) _ (second .0) in
+      let pair = both-true (eqb (length shares) (length largest)) _ (three .0) in
       let count = within-bounds 1 64 (length shares) (pair .1) in
       record {
         lengths-lent = eqb-true _ _ (lend .0);
@@ -99,11 +101,13 @@ module _ (shares largest : List ℕ) where
         paired-lists = eqb-true _ _ (pair .0);
         some = count .0;
         few = count .1;
+        short = leb-true _ _ (three .1);
         each = table-range (second .1);
         sum = table-sum (second .1);
       }
 
-module _ (shares largest lengths handles : List ℕ) (o : Openable shares largest lengths handles) where
+module _ (shares largest : List ℕ) (header : ℕ) (lengths handles : List ℕ)
+    (o : Openable shares largest header lengths handles) where
   -- both lists fit 16 bits
   pub small-lists : Small shares × Small largest
   small-lists = (
@@ -125,9 +129,9 @@ module _ (shares largest lengths handles : List ℕ) (o : Openable shares larges
         }
 
     -- the leap width fits 32 bits
-    pub width-fits : mostBelow (λ f. bookedTicks (getD (q .share) f 0) (getD (q .largest) f 0))
-        (length shares) ≤ 1080000000
+    pub width-fits : mostBelow (λ f. bookedTicks header (getD (q .share) f 0) (getD (q .largest) f 0))
+        (length shares) ≤ 1126080000
     unfolding newQueues
     width-fits =
-        width-at-most (λ f. getD (q .share) f 0) (λ f. getD (q .largest) f 0) (length shares)
+        width-at-most header (λ f. getD (q .share) f 0) (λ f. getD (q .largest) f 0) (length shares) (o .short)
         λ f h. rw (n, field-at largest f (omega (arith, o .few))) (o .each f h .largest-high)

@@ -8,6 +8,7 @@ use lib.Dec.{leb, eqb}
 use lib.ListN.{length, getD, replicate}
 use Rattle.below.specs.Listed.{listed}
 use Rattle.cost.specs.Cost.{within}
+use Rattle.cost.specs.Charge.{isHeader}
 use Rattle.reply.specs.Reply.{Reply, idle, done, refused}
 use Rattle.queues.specs.Queues.{queuesOf, sharesOf}
 use Rattle.queues.specs.Places.{lent}
@@ -21,9 +22,10 @@ field64 list = listed (λ f. getD list f 0) 0 64
 unfoldable pub newQueues : List ℕ → List ℕ → Queues
 newQueues shares largest = queuesOf (field64 shares) (field64 largest) (replicate 64 0) (replicate 64 0)
 
--- 3: the two lists are of one length, 1 to 64
-abbrev pub paired : List ℕ → List ℕ → Bool
-paired shares largest = eqb (length shares) (length largest) && within 1 64 (length shares)
+-- 3: the two lists are of one length, 1 to 64; "3 also when the header is over 64" (02 a)
+abbrev pub paired : List ℕ → List ℕ → ℕ → Bool
+paired shares largest header =
+    eqb (length shares) (length largest) && within 1 64 (length shares) && isHeader header
 
 -- "flow by flow from 0, 4 before 5": the first of n flows, from f on, that has a number out of range
 unfoldable pub faultFrom : List ℕ → List ℕ → ℕ → ℕ → Reply
@@ -46,8 +48,8 @@ tableReply shares largest =
     (cond (leb (sharesOf (newQueues shares largest) (length shares)) 1000) (done []) (refused 6 0))
 
 -- 1, 3, then what the table says
-unfoldable pub listsReply : List ℕ → List ℕ → List ℕ → List ℕ → Reply
-listsReply shares largest lengths handles =
+unfoldable pub listsReply : List ℕ → List ℕ → ℕ → List ℕ → List ℕ → Reply
+listsReply shares largest header lengths handles =
     cond (lent lengths handles)
-    (cond (paired shares largest) (tableReply shares largest) (refused 3 0))
+    (cond (paired shares largest header) (tableReply shares largest) (refused 3 0))
     (refused 1 0)

@@ -3,7 +3,7 @@
 -- Assumes nothing.
 use Prim.Native.Nat.{ℕ, _+_, _-_, _*_, _%_}
 use Rattle.cost.specs.Cost.{costOf}
-use Rattle.cost.specs.Charge.{chargeTicks}
+use Rattle.cost.specs.Charge.{chargeOf, chargeTicks}
 
 -- "for each flow: share, largest packet, .. first place (0 to 63), number waiting (0 to 64)"
 pub record Queue : Type 0 where
@@ -23,9 +23,9 @@ noQueue = queueOf 0 0 0 0
 abbrev pub costTo : Queue → ℕ
 costTo w = costOf (w .share)
 
--- "largest packet times cost", in ticks
-abbrev pub bookedTicks : ℕ → ℕ → ℕ
-bookedTicks share largest = chargeTicks (costOf share) largest
+-- "largest packet times cost", in ticks, by its charge (02 a)
+abbrev pub bookedTicks : ℕ → ℕ → ℕ → ℕ
+bookedTicks header share largest = chargeTicks (costOf share) (chargeOf header largest)
 
 -- "its k-th waiting packet, from k = 0, is at 64 × f + ((first + k) mod 64)"
 abbrev pub placeOf : ℕ → ℕ → ℕ → ℕ

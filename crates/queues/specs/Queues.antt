@@ -35,8 +35,8 @@ unfoldable pub sharesOf : Queues → ℕ → ℕ
 sharesOf q n = sumBelow (λ f. queueAt q f .share) n
 
 -- "The leap width Δ is the largest value, over the table's flows, of largest packet times cost": of the first n flows
-unfoldable pub widthOf : Queues → ℕ → ℕ
-widthOf q n = mostBelow (λ f. bookedTicks (queueAt q f .share) (queueAt q f .largest)) n
+unfoldable pub widthOf : ℕ → Queues → ℕ → ℕ
+widthOf header q n = mostBelow (λ f. bookedTicks header (queueAt q f .share) (queueAt q f .largest)) n
 
 -- 64 entries for each field
 pub record Sized (q : Queues) : Type 0 where

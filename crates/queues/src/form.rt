@@ -107,6 +107,7 @@ fn rest_ok<'a>(
 pub fn are_formed<'a>(
     table: &[u32; 1000],
     flows: u32,
+    header: u16,
     width: u32,
     share: &'a [u16; 64],
     largest: &'a [u16; 64],
@@ -115,13 +116,16 @@ pub fn are_formed<'a>(
     lengths: &[u16],
 ) -> bool
     requires { ⌜ (length (now lengths) ≡ 4096) × (now table ≡ costs) ⌝ }
-    ensures { λ r. ⌜ r ≡ queueSide flows width (queuesOf (now (share .entry)) (now (largest .entry))
+    ensures { λ r. ⌜ r ≡ queueSide flows header width (queuesOf (now (share .entry)) (now (largest .entry))
         (now (first .entry)) (now (waiting .entry))) (now (lengths .entry)) ⌝ }
 {
     if flows < 1 {
         return false;
     }
     if 64 < flows {
+        return false;
+    }
+    if 64 < header {
         return false;
     }
     if !ranges_ok(flows, share, largest, first, waiting) {
@@ -131,6 +135,6 @@ pub fn are_formed<'a>(
         return false;
     }
     let sums = (sum_of(flows, share) <= 1000)
-        & (opening::widest(table, flows, share, largest) == width as u64);
+        & (opening::widest(table, flows, header, share, largest) == width as u64);
     sums & rest_ok(flows, share, largest, first, waiting)
 }

@@ -43,17 +43,19 @@ fn table_reply(shares: &[u32], largest: &[u32]) -> OpeningReply
 pub fn opening_reply(
     shares: &[u32],
     largest: &[u32],
+    header: u32,
     lengths: &[u16],
     handles: &[u32],
 ) -> OpeningReply
     ensures { λ r. ⌜ openingReply r
-        ≡ listsReply (now (shares .entry)) (now (largest .entry)) (now (lengths .entry)) (now (handles .entry)) ⌝ }
+        ≡ listsReply (now (shares .entry)) (now (largest .entry)) header (now (lengths .entry))
+        (now (handles .entry)) ⌝ }
 {
     if !places::are_lent(lengths, handles) {
         return OpeningReply::Refused(Refusal::Memory);
     }
     let count = shares.len();
-    if !((count == largest.len()) & ((1 <= count) & (count <= 64))) {
+    if !((count == largest.len()) & ((1 <= count) & (count <= 64)) & (header <= 64)) {
         return OpeningReply::Refused(Refusal::Lists);
     }
     table_reply(shares, largest)
@@ -77,18 +79,19 @@ pub(crate) fn booked(list: &[u32]) -> [u16; 64]
 pub fn widest<'a>(
     table: &[u32; 1000],
     flows: u32,
+    header: u16,
     share: &'a [u16; 64],
     largest: &'a [u16; 64],
 ) -> u64
     requires { ⌜ (flows ≤ 64) × (now table ≡ costs) × Shared (now share) flows ⌝ }
-    ensures { λ r. ⌜ r ≡ mostBelow (λ f. bookedTicks (getD (now (share .entry)) f 0) (getD (now (largest .entry)) f 0))
-        flows ⌝ }
+    ensures { λ r. ⌜ r ≡ mostBelow (λ f. bookedTicks header (getD (now (share .entry)) f 0)
+        (getD (now (largest .entry)) f 0)) flows ⌝ }
 {
     let end = flows as usize;
     let mut width: u64 = 0;
     let mut at: usize = 0;
     while at < end {
-        let ticks = cost::charge_ticks(largest[at], cost::cost_at(table, share[at]));
+        let ticks = cost::charge_ticks(header, largest[at], cost::cost_at(table, share[at]));
         width = cost::larger_of(width, ticks);
         at += 1;
     }

@@ -28,7 +28,7 @@ module _ (clock : ServerTicks) (width : ℕ) (tag : ServerTicks) where
   unfolding leapRule
   passed h = rw (le-ltb (clock .0 + 2 * width) (tag .0) (omega arith))
 
--- the higher of tag and clock, and the charge
-pub fronted : (tag clock cost n higher charge : ℕ) → higher ≡ max tag clock → charge ≡ chargeTicks cost n
-    → ticks (higher + charge) ≡ ticks (frontTag tag clock cost n)
-fronted tag clock cost n higher charge h k = rw (h, k)
+-- the higher of tag and clock, and the charge in the flow's own ticks
+pub fronted : (tag clock cost charge higher own : ℕ) → higher ≡ max tag clock → own ≡ chargeTicks cost charge
+    → ticks (higher + own) ≡ ticks (frontTag tag clock cost charge)
+fronted tag clock cost charge higher own h k = rw (h, k)

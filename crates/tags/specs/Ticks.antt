@@ -24,6 +24,6 @@ unfoldable pub leapRule : ServerTicks → ℕ → ServerTicks → Leapt
 leapRule clock width T =
     record { leapt = leaps (clock .0) width (T .0); clock = ticks (leapClock (clock .0) width (T .0)) }
 
--- "the larger of tag and clock, plus n × cost (000, equation 3)"
+-- "the larger of tag and clock, plus n × cost (000, equation 3)", n being the packet's charge (02 a)
 abbrev pub frontTag : ℕ → ℕ → ℕ → ℕ → ℕ
-frontTag tag clock cost n = max tag clock + chargeTicks cost n
+frontTag tag clock cost charge = max tag clock + chargeTicks cost charge

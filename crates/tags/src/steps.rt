@@ -3,6 +3,7 @@
 ghost use mathlib.Core.Path.{_≡_};
 ghost use Prim.Native.Nat.{_^_, _<_};
 ghost use lib.ListN.{getD, set};
+ghost use Rattle.cost.specs.Charge.{chargeOf};
 ghost use Rattle.tags.specs.Ticks.{ticks, leapRule, frontTag};
 use crate::ServerTicks;
 
@@ -52,9 +53,15 @@ pub fn leap(clock: ServerTicks, width: u32, tag: ServerTicks) -> Leapt
 }
 
 // The tag of a packet that comes to the front: source 000, equation 3.
-pub fn front_tag(tag: ServerTicks, clock: ServerTicks, length: u16, cost: u32) -> ServerTicks
+pub fn front_tag(
+    tag: ServerTicks,
+    clock: ServerTicks,
+    header: u16,
+    length: u16,
+    cost: u32,
+) -> ServerTicks
     requires { ⌜ (tag .0 < 2 ^ 63) × (clock .0 < 2 ^ 63) ⌝ }
-    ensures { λ r. ⌜ r ≡ ticks (frontTag (tag .0) (clock .0) cost length) ⌝ }
+    ensures { λ r. ⌜ r ≡ ticks (frontTag (tag .0) (clock .0) cost (chargeOf header length)) ⌝ }
 {
-    ServerTicks(cost::larger_of(tag.0, clock.0) + cost::charge_ticks(length, cost))
+    ServerTicks(cost::larger_of(tag.0, clock.0) + cost::charge_ticks(header, length, cost))
 }

@@ -3,6 +3,7 @@
 use mathlib.Core.List.{[]}
 use Prim.Native.Nat.{ℕ}
 use lib.ListN.{set}
+use Rattle.cost.specs.Charge.{chargeOf}
 use Rattle.reply.specs.Reply.{Reply, done}
 use Rattle.queues.specs.Queue.{placeOf}
 use Rattle.queues.specs.Places.{joinReply}
@@ -21,7 +22,7 @@ storeRule s f n handle =
     let r = s .held in
     let w = flowAt r f in
     outcome (done [])
-    (put r f (joinedFlow w (r .clock) (flowCost w) n))
+    (put r f (joinedFlow w (r .clock) (flowCost w) (chargeOf (r .header) n)))
     (set (s .lengths) (lastPlace s f) n)
     (set (s .handles) (lastPlace s f) handle)
 

@@ -22,8 +22,8 @@ use Rattle.uplink.specs.Pick.{serveRule, idleRule, chooseRule, pickRule}
 
 -- "There are three calls: opening, arrival, pick."
 pub data Call : Type 0 where
-  -- a list of shares and a list of largest packets
-  opening : List ℕ → List ℕ → Call
+  -- a list of shares, a list of largest packets and a header
+  opening : List ℕ → List ℕ → ℕ → Call
   -- flow, length, handle
   arrival : ℕ → ℕ → ℕ → Call
   pick : Call
@@ -34,7 +34,7 @@ start = state blank (replicate 4096 0) (replicate 4096 0)
 
 -- what a call gives: an opening takes the memories and no record
 abbrev pub afterCall : State → Call → Outcome
-afterCall s (opening shares largest) = openingRule shares largest (s .lengths) (s .handles)
+afterCall s (opening shares largest header) = openingRule shares largest header (s .lengths) (s .handles)
 afterCall s (arrival flow length handle) = arrivalRule s flow length handle
 afterCall s pick = pickRule s
 

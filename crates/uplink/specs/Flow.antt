@@ -32,8 +32,9 @@ spareFlow w = eqb (w .tag .0) 0 && spareQueue (w .queue)
 
 -- Arrival: "If the flow was empty, its tag becomes .. Otherwise no tag changes."
 unfoldable pub joinedFlow : Flow → ServerTicks → ℕ → ℕ → Flow
-joinedFlow w clock cost n =
-    flowOf (cond (eqb (w .queue .waiting) 0) (frontTag (w .tag .0) (clock .0) cost n) (w .tag .0)) (joined (w .queue))
+joinedFlow w clock cost charge =
+    flowOf (cond (eqb (w .queue .waiting) 0) (frontTag (w .tag .0) (clock .0) cost charge) (w .tag .0))
+    (joined (w .queue))
 
 -- Pick, step 5: "If the flow still waits, its tag becomes .. Otherwise its tag stays T."
 unfoldable pub servedFlow : Flow → ServerTicks → ℕ → ℕ → Flow

@@ -1,4 +1,4 @@
--- When a record is well formed: document 01, "The record", its five bullets in its order.
+-- When a record is well formed: document 01, "The record", its five bullets in its order, with document 02 a)'s header.
 -- The first two are the queue's side (crate `queues`, specs/Form.antt), the third the tag's side (crate `tags`).
 -- Assumes nothing.
 use mathlib.Core.Bool.{Bool, _&&_, _||_}
@@ -14,11 +14,11 @@ use Rattle.uplink.specs.Record.{flowAt, tagOf, waitingOf}
 use Rattle.uplink.specs.State.{State, Outcome, demand}
 use Rattle.uplink.specs.declared.Record.{Record}
 
--- "the clock is below 2^62 + 1,081,080,000": a pick below 2^62 adds at most one leap and one packet
+-- 02 a): "the record's clock limit 2^62 + 1,127,206,080": a pick below 2^62 adds at most one leap and one charge
 abbrev pub clockEnd : ℕ
-clockEnd = 2 ^ 62 + 1081080000
+clockEnd = 2 ^ 62 + 1127206080
 
--- "link time is at most the clock; the clock is below 2^62 + 1,081,080,000"
+-- "link time is at most the clock; the clock is below" its end
 unfoldable pub clocksFormed : Record → Bool
 clocksFormed r = leb (r .link .0) (r .clock .0) && ltb (r .clock .0) clockEnd
 
@@ -29,7 +29,7 @@ restSpare r = allBelow (λ f. counts (r .flows) f || spareFlow (flowAt r f)) 64
 -- well formed, with this memory of lengths
 unfoldable pub formed : Record → List ℕ → Bool
 formed r lengths =
-    tabled (r .flows) (r .width) (r .queues)
+    tabled (r .flows) (r .header) (r .width) (r .queues)
     && queuesFormed (r .flows) (r .queues) lengths
     && tagsFormed (r .flows) (r .width) (r .clock .0) (tagOf r) (waitingOf r)
     && clocksFormed r

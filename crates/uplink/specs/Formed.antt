@@ -11,6 +11,7 @@ use borrow.Author.Tests.{leb-true, ltb-true, eqb-true, le-leb, lt-ltb, eq-eqb, l
 use Rattle.below.specs.Below.{allBelow-at, allBelow-of}
 use Rattle.below.specs.Truth.{both-true, both-of, four-true, four-of, or-right, or-either}
 use Rattle.cost.specs.Cost.{within, within-bounds, within-of}
+use Rattle.cost.specs.Charge.{isHeader}
 use Rattle.queues.specs.Queues.{sharesOf, widthOf}
 use Rattle.queues.specs.Form.{counts, booked, placed, ranged, queueFormed, tabled, queuesFormed}
 use Rattle.queues.specs.Laws.{ranged-out, width-at-most, spare-out, spare-in}
@@ -31,8 +32,9 @@ pub record FlowFormed (r : Record) (lengths : List ℕ) (f : ℕ) : Type 0 where
 pub record Formed (r : Record) (lengths : List ℕ) : Type 0 where
   pub some : 1 ≤ r .flows
   pub few : r .flows ≤ 64
+  pub header : r .header ≤ 64
   pub shares : sharesOf (r .queues) (r .flows) ≤ 1000
-  pub width : widthOf (r .queues) (r .flows) ≡ r .width
+  pub width : widthOf (r .header) (r .queues) (r .flows) ≡ r .width
   pub each : (f : ℕ) → f < r .flows → FlowFormed r lengths f
   pub link : r .link .0 ≤ r .clock .0
   pub clock : r .clock .0 < clockEnd
@@ -41,7 +43,7 @@ pub record Formed (r : Record) (lengths : List ℕ) : Type 0 where
 -- the five bullets of a record, each a Bool
 module _ (r : Record) (lengths : List ℕ) where
   abbrev table : Bool
-  table = tabled (r .flows) (r .width) (r .queues)
+  table = tabled (r .flows) (r .header) (r .width) (r .queues)
 
   abbrev queues : Bool
   queues = queuesFormed (r .flows) (r .queues) lengths
@@ -54,12 +56,14 @@ module _ (r : Record) (lengths : List ℕ) where
   formed-out e =
       let parts = both-true (table && queues && tags && clocksFormed r) (restSpare r) e in
       let four = four-true table queues tags (clocksFormed r) (parts .0) in
-      let first = four-true (within 1 64 (r .flows)) _ _ _ (four .0) in
-      let size = within-bounds 1 64 (r .flows) (first .0) in
+      let first = four-true (within 1 64 (r .flows) && isHeader (r .header)) _ _ _ (four .0) in
+      let sizes = both-true (within 1 64 (r .flows)) (isHeader (r .header)) (first .0) in
+      let size = within-bounds 1 64 (r .flows) (sizes .0) in
       let clocks = both-true (leb (r .link .0) (r .clock .0)) _ (four .3) in
       record {
         some = size .0;
         few = size .1;
+        header = leb-true _ _ (sizes .1);
         shares = leb-true _ _ (first .2);
         width = eqb-true _ _ (first .3);
         each = λ f h.
@@ -79,8 +83,8 @@ module _ (r : Record) (lengths : List ℕ) where
   formed-in F =
       both-of (table && queues && tags && clocksFormed r) (restSpare r)
       (four-of table queues tags (clocksFormed r)
-      (four-of (within 1 64 (r .flows)) _ _ _
-      (within-of 1 64 (r .flows) (F .some) (F .few))
+      (four-of (within 1 64 (r .flows) && isHeader (r .header)) _ _ _
+      (both-of _ _ (within-of 1 64 (r .flows) (F .some) (F .few)) (le-leb _ _ (F .header)))
       (allBelow-of _ _ λ f h. both-true (booked (flowAt r f .queue)) _ (F .each f h .range) .0)
       (le-leb _ _ (F .shares))
       (eq-eqb _ _ (F .width)))
@@ -90,15 +94,15 @@ module _ (r : Record) (lengths : List ℕ) where
       (both-of _ _ (le-leb _ _ (F .link)) (lt-ltb _ _ (F .clock))))
       (allBelow-of _ _ λ f l. or-either (counts (r .flows) f) _ (λ e. F .rest f (ltb-false f (r .flows) e) l))
 
--- the leap width is at most 1,080,000,000
-pub width-most : (r : Record) (lengths : List ℕ) → Formed r lengths → r .width ≤ 1080000000
+-- the leap width is at most 1,126,080,000
+pub width-most : (r : Record) (lengths : List ℕ) → Formed r lengths → r .width ≤ 1126080000
 unfolding widthOf
 width-most r lengths F =
     omega (
       arith,
       F .width,
-      width-at-most (λ f. flowAt r f .queue .share) (λ f. flowAt r f .queue .largest) (r .flows)
-          λ f h. ranged-out (flowAt r f .queue) (F .each f h .range) .largest-high,
+      width-at-most (r .header) (λ f. flowAt r f .queue .share) (λ f. flowAt r f .queue .largest) (r .flows)
+          (F .header) λ f h. ranged-out (flowAt r f .queue) (F .each f h .range) .largest-high,
     )
 
 -- no tag of a well-formed record is near the end of 64 bits

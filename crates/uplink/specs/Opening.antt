@@ -13,12 +13,13 @@ use Rattle.uplink.specs.Record.{blank, linkTime, tagsOf}
 use Rattle.uplink.specs.State.{Outcome, outcome}
 use Rattle.uplink.specs.declared.Record.{Record}
 
--- "the record with clock, link time, tags, firsts and waiting numbers 0"
-unfoldable pub newRecord : List ℕ → List ℕ → Record
-newRecord shares largest =
+-- "the record with clock, link time, tags, firsts and waiting numbers 0", and the header, "which the record keeps" (02 a)
+unfoldable pub newRecord : List ℕ → List ℕ → ℕ → Record
+newRecord shares largest header =
     record {
       flows = length shares;
-      width = widthOf (newQueues shares largest) (length shares);
+      header = header;
+      width = widthOf header (newQueues shares largest) (length shares);
       clock = ticks 0;
       link = linkTime 0;
       tags = tagsOf (replicate 64 0);
@@ -26,20 +27,21 @@ newRecord shares largest =
     }
 
 -- "sets all 4,096 places of both memories to 0"; a refusal gives the blank record and changes no place
-abbrev pub openedBy : Reply → List ℕ → List ℕ → List ℕ → List ℕ → Outcome
-openedBy (done values) shares largest lengths handles =
-    outcome (done values) (newRecord shares largest) (replicate 4096 0) (replicate 4096 0)
-openedBy (refused number flow) shares largest lengths handles = outcome (refused number flow) blank lengths handles
-openedBy idle shares largest lengths handles = outcome idle blank lengths handles
+abbrev pub openedBy : Reply → List ℕ → List ℕ → ℕ → List ℕ → List ℕ → Outcome
+openedBy (done values) shares largest header lengths handles =
+    outcome (done values) (newRecord shares largest header) (replicate 4096 0) (replicate 4096 0)
+openedBy (refused number flow) shares largest header lengths handles =
+    outcome (refused number flow) blank lengths handles
+openedBy idle shares largest header lengths handles = outcome idle blank lengths handles
 
 -- 1, 3, 4, 5, 6
-unfoldable pub openingRule : List ℕ → List ℕ → List ℕ → List ℕ → Outcome
-openingRule shares largest lengths handles =
-    openedBy (listsReply shares largest lengths handles) shares largest lengths handles
+unfoldable pub openingRule : List ℕ → List ℕ → ℕ → List ℕ → List ℕ → Outcome
+openingRule shares largest header lengths handles =
+    openedBy (listsReply shares largest header lengths handles) shares largest header lengths handles
 
 -- an opening gives the reply that it is made by
-pub opened-reply : (reply : Reply) (shares largest lengths handles : List ℕ)
-    → openedBy reply shares largest lengths handles .reply ≡ reply
-opened-reply idle shares largest lengths handles = refl
-opened-reply (done values) shares largest lengths handles = refl
-opened-reply (refused number flow) shares largest lengths handles = refl
+pub opened-reply : (reply : Reply) (shares largest : List ℕ) (header : ℕ) (lengths handles : List ℕ)
+    → openedBy reply shares largest header lengths handles .reply ≡ reply
+opened-reply idle shares largest header lengths handles = refl
+opened-reply (done values) shares largest header lengths handles = refl
+opened-reply (refused number flow) shares largest header lengths handles = refl

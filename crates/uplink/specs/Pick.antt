@@ -6,7 +6,7 @@ use mathlib.Core.List.{List}
 use Prim.Native.Nat.{ℕ, _+_, _^_}
 use lib.Dec.{ltb}
 use lib.ListN.{getD, set}
-use Rattle.cost.specs.Charge.{linkTicks}
+use Rattle.cost.specs.Charge.{chargeOf, linkTicks}
 use Rattle.reply.specs.Reply.{idle, packet}
 use Rattle.queues.specs.Queue.{placeOf}
 use Rattle.queues.specs.Places.{freedOf}
@@ -52,12 +52,19 @@ frontHandle s f = getD (s .handles) (frontPlace s f) 0
 abbrev pub behindLength : State → ℕ → ℕ
 behindLength s f = getD (s .lengths) (placeOf f (flowAt (s .held) f .queue .first) 1) 0
 
--- step 4: "Add 720 × n to clock and link time"
+-- what the two are charged
+abbrev pub frontCharge : State → ℕ → ℕ
+frontCharge s f = chargeOf (s .held .header) (frontLength s f)
+
+abbrev pub behindCharge : State → ℕ → ℕ
+behindCharge s f = chargeOf (s .held .header) (behindLength s f)
+
+-- step 4: "Add 720 × n to clock and link time", n being the packet's charge (02 a)
 abbrev pub clockOn : State → ℕ → ℕ
-clockOn s f = s .held .clock .0 + linkTicks (frontLength s f)
+clockOn s f = s .held .clock .0 + linkTicks (frontCharge s f)
 
 abbrev pub linkOn : State → ℕ → ℕ
-linkOn s f = s .held .link .0 + linkTicks (frontLength s f)
+linkOn s f = s .held .link .0 + linkTicks (frontCharge s f)
 
 -- advance and free: the state after flow f's front packet; "The freed place becomes 0 in both memories"
 abbrev pub advancedState : State → ℕ → State
@@ -65,7 +72,7 @@ advancedState s f =
     let w = flowAt (s .held) f in
     state
     (put (moved (s .held) (clockOn s f) (linkOn s f)) f
-    (servedFlow w (ticks (clockOn s f)) (flowCost w) (behindLength s f)))
+    (servedFlow w (ticks (clockOn s f)) (flowCost w) (behindCharge s f)))
     (set (s .lengths) (frontPlace s f) 0)
     (set (s .handles) (frontPlace s f) 0)
 
@@ -96,13 +103,14 @@ abbrev pub pickRule : State → Outcome
 pickRule s = checked s (chooseRule s)
 
 -- what `advance` of `src/pick.rt` gives: the packet that `free` frees, and both clocks after it
-abbrev pub goneOf : ℕ → ℕ → ℕ → ℕ → List ℕ → List ℕ → Gone
-goneOf f first clock link lengths handles =
+abbrev pub goneOf : ℕ → ℕ → ℕ → ℕ → ℕ → List ℕ → List ℕ → Gone
+goneOf header f first clock link lengths handles =
     let freed = freedOf f first lengths handles in
+    let sent = linkTicks (chargeOf header (freed .length)) in
     record {
       length = freed .length;
       handle = freed .handle;
       behind = freed .behind;
-      clock = ticks (clock + linkTicks (freed .length));
-      link = linkTime (link + linkTicks (freed .length));
+      clock = ticks (clock + sent);
+      link = linkTime (link + sent);
     }

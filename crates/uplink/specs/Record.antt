@@ -38,7 +38,15 @@ waitingOf r f = flowAt r f .queue .waiting
 -- the record with another clock, link time, tags and queues
 abbrev pub with : Record → ServerTicks → LinkTicks → ServerTags → Queues → Record
 with r clock link tags queues =
-    record { flows = r .flows; width = r .width; clock = clock; link = link; tags = tags; queues = queues }
+    record {
+      flows = r .flows;
+      header = r .header;
+      width = r .width;
+      clock = clock;
+      link = link;
+      tags = tags;
+      queues = queues;
+    }
 
 -- the record with another clock and link time
 abbrev pub moved : Record → ℕ → ℕ → Record
@@ -58,6 +66,7 @@ abbrev pub blank : Record
 blank =
     record {
       flows = 0;
+      header = 0;
       width = 0;
       clock = ticks 0;
       link = linkTime 0;
@@ -66,10 +75,11 @@ blank =
     }
 
 -- the record whose parts are lent one by one
-abbrev pub recordOf : ℕ → ℕ → ℕ → ℕ → List ℕ → List ℕ → List ℕ → List ℕ → List ℕ → Record
-recordOf flows width clock link tags share largest first waiting =
+abbrev pub recordOf : ℕ → ℕ → ℕ → ℕ → ℕ → List ℕ → List ℕ → List ℕ → List ℕ → List ℕ → Record
+recordOf flows header width clock link tags share largest first waiting =
     record {
       flows = flows;
+      header = header;
       width = width;
       clock = ticks clock;
       link = linkTime link;

@@ -29,6 +29,7 @@ impl Record {
         } else if !form::is_formed(
             &table,
             self.flows,
+            self.header,
             self.width,
             self.clock,
             self.link,
@@ -42,7 +43,7 @@ impl Record {
             reply = ArrivalReply::Refused(Refusal::Form);
         } else {
             reply = queues::arrival_reply(
-                self.flows,
+                self.flows as u32,
                 flow,
                 length,
                 &self.queues.largest,
@@ -56,7 +57,7 @@ impl Record {
                 if waiting == 0 {
                     let cost = cost::cost_at(&table, queues::field(&self.queues.share, flow));
                     let tag = tags::tag_at(&self.tags.0, flow);
-                    let next = tags::front_tag(tag, self.clock, bytes, cost);
+                    let next = tags::front_tag(tag, self.clock, self.header, bytes, cost);
                     tags::put_tag(&mut self.tags.0, flow, next);
                 }
             }

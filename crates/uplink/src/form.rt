@@ -8,13 +8,14 @@ ghost use Rattle.uplink.specs.Form.{formed};
 use tags::LinkTicks;
 use tags::ServerTicks;
 
-// The clock is below this: document 01's 2^62 + 1,081,080,000.
-const CLOCK_END: u64 = 4611686019508467904;
+// The clock is below this: document 02 a)'s 2^62 + 1,127,206,080.
+const CLOCK_END: u64 = 4611686019554593984;
 
 // The record of these parts is well formed, with this memory of lengths.
 pub(crate) fn is_formed<'a>(
     table: &[u32; 1000],
-    flows: u32,
+    flows: u16,
+    header: u16,
     width: u32,
     clock: ServerTicks,
     link: LinkTicks,
@@ -26,8 +27,9 @@ pub(crate) fn is_formed<'a>(
     lengths: &[u16],
 ) -> bool
     requires { ⌜ (length (now lengths) ≡ 4096) × (now table ≡ costs) ⌝ }
-    ensures { λ r. ⌜ r ≡ formed (recordOf flows width (clock .0) (link .0) (now (tags .entry)) (now (share .entry))
-        (now (largest .entry)) (now (first .entry)) (now (waiting .entry))) (now (lengths .entry)) ⌝ }
+    ensures { λ r. ⌜ r ≡ formed (recordOf flows header width (clock .0) (link .0) (now (tags .entry))
+        (now (share .entry)) (now (largest .entry)) (now (first .entry)) (now (waiting .entry)))
+        (now (lengths .entry)) ⌝ }
 {
     if clock.0 < link.0 {
         return false;
@@ -35,8 +37,19 @@ pub(crate) fn is_formed<'a>(
     if CLOCK_END <= clock.0 {
         return false;
     }
-    if !queues::are_formed(table, flows, width, share, largest, first, waiting, lengths) {
+    let count = flows as u32;
+    if !queues::are_formed(
+        table,
+        count,
+        header,
+        width,
+        share,
+        largest,
+        first,
+        waiting,
+        lengths,
+    ) {
         return false;
     }
-    tags::are_formed(flows, width, clock, tags, waiting)
+    tags::are_formed(count, width, clock, tags, waiting)
 }

@@ -1,5 +1,5 @@
 // The uplink scheduler: which waiting packet a radio link sends next, by Leap Forward Virtual Clock. Sources:
-// document 01; source 000, section 3.
+// document 01 and document 02 a); source 000, section 3.
 // Three calls, `Record::opening`, `arrival` and `pick`, take any input at all and end with a reply or one of ten
 // numbered refusals.
 // The waiting packets are in two lent memories of 4,096 places, one of lengths (bytes) and one of handles; flow f
@@ -23,11 +23,13 @@ use tags::ServerTicks;
 // What the scheduler knows between two calls. The caller carries it, with both memories, unaltered from call to call.
 pub struct Record {
     // The number of flows, 1 to 64; flows beyond it are all zeros.
-    pub flows: u32,
-    // The leap width Δ, in server ticks: the largest value, over the flows, of largest packet times cost; at
-    // most 1,080,000,000.
+    pub flows: u16,
+    // The link header of every packet, in bytes, 0 to 64. A packet is charged its length plus this.
+    pub header: u16,
+    // The leap width Δ, in server ticks: the largest value, over the flows, of the charge of the largest packet
+    // times cost; at most 1,126,080,000.
     pub width: u32,
-    // The server clock, below 2^62 + 1,081,080,000.
+    // The server clock, below 2^62 + 1,127,206,080.
     pub clock: ServerTicks,
     // The link time, at most the clock.
     pub link: LinkTicks,
@@ -78,6 +80,7 @@ impl Record {
     {
         Record {
             flows: 0,
+            header: 0,
             width: 0,
             clock: ServerTicks(0),
             link: LinkTicks(0),

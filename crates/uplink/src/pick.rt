@@ -31,6 +31,7 @@ pub struct Gone {
 
 // Step 4: the packet in front leaves, and both clocks go on by what it takes of the link.
 fn advance(
+    header: u16,
     flow: u32,
     first: u16,
     clock: ServerTicks,
@@ -40,12 +41,12 @@ fn advance(
 ) -> Gone
     requires { ⌜ (flow < 64) × (length (now lengths) ≡ 4096) × (length (now handles) ≡ 4096) ⌝ }
     requires { ⌜ (clock .0 < 2 ^ 63) × (link .0 < 2 ^ 63) ⌝ }
-    ensures { λ r. ⌜ (r ≡ goneOf flow first (clock .0) (link .0) (now (lengths .entry)) (now (handles .entry)))
+    ensures { λ r. ⌜ (r ≡ goneOf header flow first (clock .0) (link .0) (now (lengths .entry)) (now (handles .entry)))
         × (now (lengths .exit) ≡ set (now (lengths .entry)) (placeOf flow first 0) 0)
         × (now (handles .exit) ≡ set (now (handles .entry)) (placeOf flow first 0) 0) ⌝ }
 {
     let freed = queues::free(flow, first, lengths, handles);
-    let sent = cost::link_ticks(freed.length);
+    let sent = cost::link_ticks(header, freed.length);
     let server_time = clock.0 + sent;
     let link_time = link.0 + sent;
     Gone {
@@ -70,6 +71,7 @@ impl Record {
         } else if !form::is_formed(
             &table,
             self.flows,
+            self.header,
             self.width,
             self.clock,
             self.link,
@@ -82,7 +84,7 @@ impl Record {
         ) {
             reply = PickReply::Refused(Refusal::Form);
         } else {
-            let lead = tags::choose(self.flows, &self.tags.0, &self.queues.waiting);
+            let lead = tags::choose(self.flows as u32, &self.tags.0, &self.queues.waiting);
             if !lead.waits {
                 self.clock.0 = 0;
                 self.link.0 = 0;
@@ -96,14 +98,22 @@ impl Record {
                 let leap = tags::leap(self.clock, self.width, tag);
                 let first = queues::go_on(&mut self.queues.first, flow);
                 let waiting = queues::leave(&mut self.queues.waiting, flow);
-                let gone = advance(flow, first, leap.clock, self.link, lengths, handles);
+                let gone = advance(
+                    self.header,
+                    flow,
+                    first,
+                    leap.clock,
+                    self.link,
+                    lengths,
+                    handles,
+                );
                 let clock = gone.clock;
                 let link = gone.link;
                 self.clock = clock;
                 self.link = link;
                 if 1 < waiting {
                     let cost = cost::cost_at(&table, queues::field(&self.queues.share, flow));
-                    let next = tags::front_tag(tag, clock, gone.behind, cost);
+                    let next = tags::front_tag(tag, clock, self.header, gone.behind, cost);
                     tags::put_tag(&mut self.tags.0, flow, next);
                 }
                 reply = PickReply::Packet {

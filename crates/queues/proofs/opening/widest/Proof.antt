@@ -11,11 +11,11 @@ use Rattle.queues.proofs.opening.widest.Statement.{statement}
 use Rattle.queues.proofs.opening.widest.Tie as tie
 
 abbrev Inv-loop : tie.InvT-loop
-Inv-loop table flows share largest end width₀ at₀ width at =
-    (at ≤ flows) × (width ≡ mostBelow (ticksAt share largest) at)
+Inv-loop table flows header share largest end width₀ at₀ width at =
+    (at ≤ flows) × (width ≡ mostBelow (ticksAt header share largest) at)
 
 abbrev μ-loop : tie.MeasureT-loop
-μ-loop table flows share largest end width₀ at₀ width at = flows - at
+μ-loop table flows header share largest end width₀ at₀ width at = flows - at
 
 loop-holds : tie.Need-loop-holds Inv-loop μ-loop
 loop-holds c = (search needs, sym (mostBelow-none _))
@@ -57,7 +57,7 @@ loop-again c =
     let turn = charged .before .before .before .before .before in
     let args = turn .before .args in (
       omega arith,
-      width-turn (args .share .now) (args .largest .now) _ _ _ _ _ (turn .loop .inv .1)
+      width-turn (args .header) (args .share .now) (args .largest .now) _ _ _ _ _ (turn .loop .inv .1)
           (charged .before .cost-at .ensures)
           (charged .charge-ticks .ensures .0) (c .larger-of .ensures),
     )
