@@ -10,6 +10,7 @@ use lib.ListN.{length, set}
 use lib.Seq.{set-getD}
 use borrow.Author.Tests.{eq-eqb, ne-eqb}
 use Rattle.cost.specs.Cost.{costs, costOf}
+use Rattle.cost.specs.Charge.{chargeOf}
 use Rattle.reply.specs.Reply.{arrivalReply}
 use Rattle.reply.specs.Replies.{told}
 use Rattle.reply.specs.declared.ArrivalReply.{ArrivalReply}
@@ -97,7 +98,7 @@ module _ (r : Record) (lengths handles : List ℕ) (f n handle : ℕ) (a : Bool)
       -- where the flow's tag is the rule's, so is all else
       arrived : (tags : List ℕ)
           → tags ≡ set (r .tags .0) f (cond (eqb (waitingOf r f) 0)
-          (frontTag (tagOf r f) (r .clock .0) (flowCost (flowAt r f)) n) (tagOf r f))
+          (frontTag (tagOf r f) (r .clock .0) (flowCost (flowAt r f)) (chargeOf (r .header) n)) (tagOf r f))
           → joined tags ≡ arrivalRule (state r lengths handles) f n handle
       unfolding storeRule joinedFlow put
       arrived tags p = taken-on _ (rw (
@@ -114,7 +115,7 @@ module _ (r : Record) (lengths handles : List ℕ) (f n handle : ℕ) (a : Bool)
       -- the flow was empty: its tag changes
       pub arrived-first : (share cost : ℕ) (tag next : ServerTicks) (tags : List ℕ) → waiting ≡ 0
           → share ≡ flowAt r f .queue .share → cost ≡ costOf share → tag .0 ≡ tagOf r f
-          → next ≡ ticks (frontTag (tag .0) (r .clock .0) cost n) → tags ≡ set (r .tags .0) f (next .0)
+          → next ≡ ticks (frontTag (tag .0) (r .clock .0) cost (chargeOf (r .header) n)) → tags ≡ set (r .tags .0) f (next .0)
           → joined tags ≡ arrivalRule (state r lengths handles) f n handle
       arrived-first share cost tag next tags z s c t m p =
           arrived tags (p ∙ rw (m, t, c, s, eq-eqb (waitingOf r f) 0 (sym a-waiting ∙ z)))

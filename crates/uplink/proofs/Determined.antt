@@ -39,7 +39,7 @@ one give made same a b r q lengths handles lengths' handles' e = (
 pub opening-determined : (κs : Lfts 4) (a : ArgsD opening.signature κs) (r q : ResD opening.signature κs)
     (s t : AtExit (endedOf 4 opening-kinds.ps opening-kinds.r) κs)
     → opening-reads.Post κs a r s → opening-reads.Post κs a q t
-    → (r ≡ q) × (now (s .1 .1 .0) ≡ now (t .1 .1 .0)) × (now (s .1 .1 .1 .0) ≡ now (t .1 .1 .1 .0))
+    → (r ≡ q) × (now (s .1 .1 .1 .0) ≡ now (t .1 .1 .1 .0)) × (now (s .1 .1 .1 .1 .0) ≡ now (t .1 .1 .1 .1 .0))
 opening-determined κs a r q s t e f =
     one openingReply (λ next reply. record { next = next; reply = reply }) opening-reply-one
     (r .reply) (q .reply) (r .next) (q .next) _ _ _ _ (e ∙ sym f)

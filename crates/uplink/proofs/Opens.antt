@@ -19,33 +19,34 @@ use Rattle.uplink.specs.State.{outcome}
 use Rattle.uplink.specs.Opening.{newRecord, openingRule}
 use Rattle.uplink.specs.declared.Record.{Record}
 
-module _ (shares largest lengths handles : List ℕ) (reply : OpeningReply)
-    (e : openingReply reply ≡ listsReply shares largest lengths handles) where
+module _ (shares largest : List ℕ) (header : ℕ) (lengths handles : List ℕ) (reply : OpeningReply)
+    (e : openingReply reply ≡ listsReply shares largest header lengths handles) where
   -- refused
   pub opening-refused : (next : Record) (why : Refusal) → next ≡ blank → reply ≡ OpeningReply.Refused why
-      → outcome (openingReply reply) next lengths handles ≡ openingRule shares largest lengths handles
+      → outcome (openingReply reply) next lengths handles ≡ openingRule shares largest header lengths handles
   unfolding openingRule
   opening-refused next why b d = rw (← e, b, d, told why .says)
 
   module _ (d : reply ≡ OpeningReply.Done) where
     -- done: what was handed in
-    pub taken : Openable shares largest lengths handles
-    taken = openable shares largest lengths handles (sym e ∙ ap openingReply d)
+    pub taken : Openable shares largest header lengths handles
+    taken = openable shares largest header lengths handles (sym e ∙ ap openingReply d)
 
     -- and what is handed back
     pub opening-done : (q : Queues) (start : Record) (width : ℕ) (ls hs : List ℕ) → q ≡ newQueues shares largest
         → start ≡ blank
-        → width ≡ mostBelow (λ f. bookedTicks (getD (q .share) f 0) (getD (q .largest) f 0)) (length shares)
+        → width ≡ mostBelow (λ f. bookedTicks header (getD (q .share) f 0) (getD (q .largest) f 0)) (length shares)
         → ls ≡ replicate (length lengths) 0 → hs ≡ replicate (length handles) 0
         → outcome (openingReply reply) (record {
           flows = length shares;
+          header = header;
           width = width;
           clock = start .clock;
           link = start .link;
           tags = start .tags;
           queues = q;
         }) ls hs
-        ≡ openingRule shares largest lengths handles
+        ≡ openingRule shares largest header lengths handles
     unfolding openingRule newRecord widthOf
     opening-done q start width ls hs n b w l h =
         rw (← e, b, d, w, n, l, h, taken .lengths-lent, taken .handles-lent)

@@ -10,7 +10,7 @@ use lib.ListN.{length, getD, set}
 use lib.Seq.{set-getD}
 use borrow.Author.Tests.{not-true, not-false, le-ltb, lt-ltb}
 use Rattle.cost.specs.Cost.{costs, costOf}
-use Rattle.cost.specs.Charge.{linkTicks}
+use Rattle.cost.specs.Charge.{chargeOf, linkTicks}
 use Rattle.reply.specs.Reply.{idle, refused, packet}
 use Rattle.queues.specs.Queue.{placeOf}
 use Rattle.queues.specs.Queues.{queuesOf, put-left}
@@ -45,16 +45,16 @@ goneBy freed clock link sent =
     }
 
 -- the packet that left, and what it took of the link
-pub advanced : (f first sent : ℕ) (clock : ServerTicks) (link : LinkTicks) (lengths handles ls hs : List ℕ)
+pub advanced : (header f first sent : ℕ) (clock : ServerTicks) (link : LinkTicks) (lengths handles ls hs : List ℕ)
     (freed : Freed)
     → (freed ≡ freedOf f first lengths handles)
     × (ls ≡ set lengths (placeOf f first 0) 0)
     × (hs ≡ set handles (placeOf f first 0) 0)
-    → sent ≡ linkTicks (freed .length)
-    → (goneBy freed clock link sent ≡ goneOf f first (clock .0) (link .0) lengths handles)
+    → sent ≡ linkTicks (chargeOf header (freed .length))
+    → (goneBy freed clock link sent ≡ goneOf header f first (clock .0) (link .0) lengths handles)
     × (ls ≡ set lengths (placeOf f first 0) 0)
     × (hs ≡ set handles (placeOf f first 0) 0)
-advanced f first sent clock link lengths handles ls hs freed e s = (rw (s, e .0), e .1, e .2)
+advanced header f first sent clock link lengths handles ls hs freed e s = (rw (s, e .0), e .1, e .2)
 
 -- a leap takes the clock on by Δ at the most
 pub leap-most : (leap : Leapt) (clock tag : ServerTicks) (width : ℕ) → leap ≡ leapRule clock width tag
@@ -63,10 +63,10 @@ unfolding leapRule
 leap-most leap clock tag width e = rw e (leap-high (clock .0) width (tag .0))
 
 -- what is left of 64 bits above a clock that a packet has taken on
-pub gone-most : (gone : Gone) (f first clock link : ℕ) (lengths handles : List ℕ)
-    → gone ≡ goneOf f first clock link lengths handles → getD lengths (placeOf f first 0) 0 ≤ 1500
-    → gone .clock .0 ≤ clock + 1080000
-gone-most gone f first clock link lengths handles e h = rw e (omega (arith, h))
+pub gone-most : (gone : Gone) (header f first clock link : ℕ) (lengths handles : List ℕ)
+    → gone ≡ goneOf header f first clock link lengths handles → header ≤ 64 → getD lengths (placeOf f first 0) 0 ≤ 1500
+    → gone .clock .0 ≤ clock + 1126080
+gone-most gone header f first clock link lengths handles e l h = rw e (omega (arith, l, h))
 
 -- what the checks leave where the front packet of the flow that leads goes
 pub record Servable (r : Record) (lead : Lead) (table lengths handles : List ℕ) : Type 0 where
@@ -82,7 +82,8 @@ pub record Servable (r : Record) (lead : Lead) (table lengths handles : List ℕ
   pub tag : lead .tag .0 < 2 ^ 63
   pub clock : r .clock .0 < 2 ^ 62
   pub link : r .link .0 < 2 ^ 62
-  pub width : r .width ≤ 1080000000
+  pub width : r .width ≤ 1126080000
+  pub header : r .header ≤ 64
 
 module _ (r : Record) (lengths handles : List ℕ) (a : Bool) (l : a ≡ lent lengths handles) (lends : not a ≡ false)
     (b : Bool) (e : b ≡ formed r lengths) (fine : not b ≡ false) where
@@ -138,6 +139,7 @@ module _ (r : Record) (lengths handles : List ℕ) (a : Bool) (l : a ≡ lent le
               clock = soon;
               link = omega (arith, F .link);
               width = width-most r lengths F;
+              header = F .header;
             }
 
         -- the front packet goes
@@ -150,7 +152,7 @@ module _ (r : Record) (lengths handles : List ℕ) (a : Bool) (l : a ≡ lent le
         module _ (first waiting : ℕ) (leap : Leapt) (gone : Gone) (firsts waits ls hs : List ℕ)
             (leapt : leap ≡ leapRule (r .clock) (r .width) (lead .tag))
             (a-first : first ≡ flowAt r (lead .flow) .queue .first) (a-waiting : waiting ≡ waitingOf r (lead .flow))
-            (went : (gone ≡ goneOf (lead .flow) first (leap .clock .0) (r .link .0) lengths handles)
+            (went : (gone ≡ goneOf (r .header) (lead .flow) first (leap .clock .0) (r .link .0) lengths handles)
             × (ls ≡ set lengths (placeOf (lead .flow) first 0) 0)
             × (hs ≡ set handles (placeOf (lead .flow) first 0) 0))
             (on : firsts ≡ set (r .queues .first) (lead .flow) ((first + 1) % 64))
@@ -166,7 +168,8 @@ module _ (r : Record) (lengths handles : List ℕ) (a : Bool) (l : a ≡ lent le
           -- where the flow's tag is the rule's, so is all else
           picked : (tags : List ℕ)
               → tags ≡ set (r .tags .0) (lead .flow) (cond (ltb 1 (waitingOf r (lead .flow)))
-              (frontTag (lead .tag .0) (gone .clock .0) (flowCost (flowAt r (lead .flow))) (gone .behind))
+              (frontTag (lead .tag .0) (gone .clock .0) (flowCost (flowAt r (lead .flow)))
+              (chargeOf (r .header) (gone .behind)))
               (lead .tag .0))
               → sent tags ≡ pickRule (state r lengths handles)
           unfolding serveRule servedFlow put leapRule
@@ -188,7 +191,7 @@ module _ (r : Record) (lengths handles : List ℕ) (a : Bool) (l : a ≡ lent le
           -- another packet comes to the front, and the flow gets its tag
           pub picked-more : (share cost : ℕ) (next : ServerTicks) (tags : List ℕ) → 1 < waiting
               → share ≡ flowAt r (lead .flow) .queue .share → cost ≡ costOf share
-              → next ≡ ticks (frontTag (lead .tag .0) (gone .clock .0) cost (gone .behind))
+              → next ≡ ticks (frontTag (lead .tag .0) (gone .clock .0) cost (chargeOf (r .header) (gone .behind)))
               → tags ≡ set (r .tags .0) (lead .flow) (next .0) → sent tags ≡ pickRule (state r lengths handles)
           picked-more share cost next tags h s c m p =
               picked tags (p ∙ rw (m, c, s, lt-ltb 1 (waitingOf r (lead .flow)) (omega (arith, h, a-waiting))))

@@ -10,6 +10,7 @@ use Rattle.below.specs.Below.{allBelow-same}
 use Rattle.below.specs.Truth.{both-true, four-true}
 use Rattle.below.specs.Faults.{both-below, or-both}
 use Rattle.cost.specs.Cost.{within, within-bounds}
+use Rattle.cost.specs.Charge.{isHeader}
 use Rattle.queues.specs.Form.{spareQueue, tabled, queuesFormed, queuesSpare, queueSide}
 use Rattle.queues.specs.declared.Queues.{Queues}
 use Rattle.tags.specs.Form.{tagsFormed, tagsSpare}
@@ -37,7 +38,7 @@ regroup true true true true false false = refl
 
 module _ (r : Record) (lengths : List ℕ) where
   abbrev queueTest : Bool
-  queueTest = queueSide (r .flows) (r .width) (r .queues) lengths
+  queueTest = queueSide (r .flows) (r .header) (r .width) (r .queues) lengths
 
   abbrev tagTest : Bool
   tagTest = tagsFormed (r .flows) (r .width) (r .clock .0) (tagOf r) (waitingOf r) && tagsSpare (r .flows) (tagOf r)
@@ -51,7 +52,7 @@ module _ (r : Record) (lengths : List ℕ) where
 
   tested : formed r lengths ≡ (clocksFormed r && queueTest && tagTest)
   unfolding formed
-  tested = rw rest-both (regroup (clocksFormed r) (tabled (r .flows) (r .width) (r .queues))
+  tested = rw rest-both (regroup (clocksFormed r) (tabled (r .flows) (r .header) (r .width) (r .queues))
       (queuesFormed (r .flows) (r .queues) lengths)
       (tagsFormed (r .flows) (r .width) (r .clock .0) (tagOf r) (waitingOf r)) (tagsSpare (r .flows) (tagOf r))
       (queuesSpare (r .flows) (r .queues)))
@@ -77,10 +78,11 @@ module _ (r : Record) (lengths : List ℕ) where
           rw (le-leb (r .link .0) (r .clock .0) low, lt-ltb (r .clock .0) clockEnd high, ← e, not-false b h))
 
 -- the queue's side has no more than 64 flows
-pub few-flows : (flows width : ℕ) (q : Queues) (lengths : List ℕ) (b : Bool) → b ≡ queueSide flows width q lengths
-    → not b ≡ false → flows ≤ 64
+pub few-flows : (flows header width : ℕ) (q : Queues) (lengths : List ℕ) (b : Bool)
+    → b ≡ queueSide flows header width q lengths → not b ≡ false → flows ≤ 64
 unfolding tabled
-few-flows flows width q lengths b e h =
-    let parts = both-true (tabled flows width q && queuesFormed flows q lengths) _ (sym e ∙ not-false b h) in
-    let table = both-true (tabled flows width q) _ (parts .0) in
-    within-bounds 1 64 flows (four-true (within 1 64 flows) _ _ _ (table .0) .0) .1
+few-flows flows header width q lengths b e h =
+    let parts = both-true (tabled flows header width q && queuesFormed flows q lengths) _ (sym e ∙ not-false b h) in
+    let table = both-true (tabled flows header width q) _ (parts .0) in
+    let sizes = four-true (within 1 64 flows && isHeader header) _ _ _ (table .0) .0 in
+    within-bounds 1 64 flows (both-true (within 1 64 flows) (isHeader header) sizes .0) .1

@@ -52,6 +52,9 @@ is-formed-requires c κs =
       passed .before .before .before .before .table .ensures,
     )
 
+cast-arrival-reply : tie.Need-cast-arrival-reply
+cast-arrival-reply c = search needs
+
 arrival-reply-requires : tie.Need-arrival-reply-requires
 arrival-reply-requires c κs =
     let formed = c .before .before .before in
@@ -197,6 +200,7 @@ arrival-spec =
     table-requires
     are-lent-requires
     is-formed-requires
+    cast-arrival-reply
     arrival-reply-requires
     enum-told
     field-requires

@@ -15,6 +15,7 @@ returns : tie.Need-returns
 returns c =
     ap (λ queues. record {
       flows = 0;
+      header = 0;
       width = 0;
       clock = ticks 0;
       link = linkTime 0;

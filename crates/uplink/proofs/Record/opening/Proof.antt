@@ -23,7 +23,7 @@ cast-flows : tie.Need-cast-flows
 cast-flows c =
     let told = c .before in
     let args = told .before .before .before .before .before .before .before .before .before .before .args in
-    let o = taken (args .shares .now) (args .largest .now) (args .lengths .now) (args .handles .now) _
+    let o = taken (args .shares .now) (args .largest .now) (args .header) (args .lengths .now) (args .handles .now) _
     (told .before .before .opening-reply .ensures) (told .enum-told .given .1) in
     omega (arith, o .few)
 
@@ -31,18 +31,26 @@ opened-requires : tie.Need-opened-requires
 opened-requires c κs =
     let told = c .before in
     let args = told .before .before .before .before .before .before .before .before .before .before .args in
-    let o = taken (args .shares .now) (args .largest .now) (args .lengths .now) (args .handles .now) _
+    let o = taken (args .shares .now) (args .largest .now) (args .header) (args .lengths .now) (args .handles .now) _
     (told .before .before .opening-reply .ensures) (told .enum-told .given .1) in
-    small-lists _ _ _ _ o
+    small-lists _ _ _ _ _ o
+
+cast-bytes : tie.Need-cast-bytes
+cast-bytes c =
+    let told = c .before .before in
+    let args = told .before .before .before .before .before .before .before .before .before .before .args in
+    let o = taken (args .shares .now) (args .largest .now) (args .header) (args .lengths .now) (args .handles .now) _
+    (told .before .before .opening-reply .ensures) (told .enum-told .given .1) in
+    omega (arith, o .short)
 
 widest-requires : tie.Need-widest-requires
 widest-requires c κs =
     let opened = c .before .before .before .before in
     let told = opened .before .before in
     let args = told .before .before .before .before .before .before .before .before .before .before .args in
-    let o = taken (args .shares .now) (args .largest .now) (args .lengths .now) (args .handles .now) _
+    let o = taken (args .shares .now) (args .largest .now) (args .header) (args .lengths .now) (args .handles .now) _
     (told .before .before .opening-reply .ensures) (told .enum-told .given .1) in
-    (o .few, opened .before .table .ensures, opened-shares _ _ _ _ o _ (opened .opened .ensures))
+    (o .few, opened .before .table .ensures, opened-shares _ _ _ _ _ o _ (opened .opened .ensures))
 
 clear-lengths-requires : tie.Need-clear-lengths-requires
 clear-lengths-requires c κs = search needs
@@ -56,9 +64,19 @@ cast-next c =
     let opened = wide .before .before .before .before .before in
     let told = opened .before .before in
     let args = told .before .before .before .before .before .before .before .before .before .before .args in
-    let o = taken (args .shares .now) (args .largest .now) (args .lengths .now) (args .handles .now) _
+    let o = taken (args .shares .now) (args .largest .now) (args .header) (args .lengths .now) (args .handles .now) _
     (told .before .before .opening-reply .ensures) (told .enum-told .given .1) in
-    omega (arith, wide .widest .ensures, width-fits _ _ _ _ o _ (opened .opened .ensures))
+    omega (arith, o .few)
+
+cast-next-2 : tie.Need-cast-next-2
+cast-next-2 c =
+    let wide = c .before .before .before .before .before .before .before .before in
+    let opened = wide .before .before .before .before .before in
+    let told = opened .before .before in
+    let args = told .before .before .before .before .before .before .before .before .before .before .args in
+    let o = taken (args .shares .now) (args .largest .now) (args .header) (args .lengths .now) (args .handles .now) _
+    (told .before .before .opening-reply .ensures) (told .enum-told .given .1) in
+    omega (arith, wide .widest .ensures, width-fits _ _ _ _ _ o _ (opened .opened .ensures))
 
 enum-told-2 : tie.Need-enum-told-2
 enum-told-2 c = search needs
@@ -75,7 +93,7 @@ returns c =
     let opened = wide .before .before .before .before .before in
     let told = opened .before .before in
     let args = told .before .before .before .before .before .before .before .before .before .before .args in
-    opening-done (args .shares .now) (args .largest .now) (args .lengths .now) (args .handles .now) _
+    opening-done (args .shares .now) (args .largest .now) (args .header) (args .lengths .now) (args .handles .now) _
     (told .before .before .opening-reply .ensures) (told .enum-told .given .1) _ _ _ _ _
     (opened .opened .ensures)
     (told .before .before .before .before .before .blank .ensures)
@@ -92,7 +110,7 @@ same-length-4 c = search needs
 returns-2 : tie.Need-returns-2
 returns-2 c =
     let args = c .before .before .before .before .before .before .before .before .before .before .args in
-    opening-refused (args .shares .now) (args .largest .now) (args .lengths .now) (args .handles .now) _
+    opening-refused (args .shares .now) (args .largest .now) (args .header) (args .lengths .now) (args .handles .now) _
     (c .before .before .opening-reply .ensures) _ _
     (c .before .before .before .before .before .blank .ensures) (c .enum-told2 .given .1)
 
@@ -106,10 +124,12 @@ opening-spec =
     table-requires
     cast-flows
     opened-requires
+    cast-bytes
     widest-requires
     clear-lengths-requires
     clear-handles-requires
     cast-next
+    cast-next-2
     enum-told-2
     same-length
     same-length-2

@@ -68,6 +68,9 @@ is-formed-requires c κs =
       passed .before .before .before .before .table .ensures,
     )
 
+cast-choose : tie.Need-cast-choose
+cast-choose c = search needs
+
 choose-requires : tie.Need-choose-requires
 choose-requires c κs =
     let formed = c .before .before .before in
@@ -120,8 +123,8 @@ front-tag-requires c κs =
     let known = ready soon in
     let short = rw (← on-at gone .go-on .ensures .0) at (known .short) in
     let leap = leap-most _ _ _ _ (leapt-at gone .leap .ensures) in
-    let late = gone-most (gone .advance .result) _ _ (leapt-at gone .leap .result .clock .0) (args .t1 .link .0)
-    (args .lengths .now) (args .handles .now) (gone .advance .ensures .0) short in
+    let late = gone-most (gone .advance .result) _ _ _ (leapt-at gone .leap .result .clock .0) (args .t1 .link .0)
+    (args .lengths .now) (args .handles .now) (gone .advance .ensures .0) (known .header) short in
     (known .tag, omega (arith, late, leap, known .clock, known .width))
 
 put-tag-requires : tie.Need-put-tag-requires
@@ -243,6 +246,7 @@ pick-spec =
     table-requires
     are-lent-requires
     is-formed-requires
+    cast-choose
     choose-requires
     leap-requires
     go-on-requires

@@ -23,7 +23,7 @@ are-formed-requires-2 : tie.Need-are-formed-requires-2
 are-formed-requires-2 c κs =
     let args = c .before .before .before .before .before .before .before .before .args in
     let queues = queuesOf (args .share .now) (args .largest .now) (args .first .now) (args .waiting .now) in (
-      few-flows (args .flows) (args .width) queues (args .lengths .now) _ (c .before .are-formed .ensures)
+      few-flows (args .flows) (args .header) (args .width) queues (args .lengths .now) _ (c .before .are-formed .ensures)
           (c .if3 .left),
       omega arith,
     )

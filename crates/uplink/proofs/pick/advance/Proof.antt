@@ -27,7 +27,7 @@ returns : tie.Need-returns
 returns c =
     let sent = c .before .before in
     let args = sent .before .before .before .before .before .before .before .before .before .before .args in
-    advanced (args .flow) (args .first) _ (args .clock) (args .link) (args .lengths .now) (args .handles .now) _ _ _
+    advanced (args .header) (args .flow) (args .first) _ (args .clock) (args .link) (args .lengths .now) (args .handles .now) _ _ _
     (sent .before .before .before .before .before .free .ensures) (sent .link-ticks .ensures .0)
 
 pub advance-spec : {M : Type 1} → statement M
