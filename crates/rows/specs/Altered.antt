@@ -7,7 +7,7 @@ use lib.ListN.{getD}
 use Rattle.reply.specs.Reply.{Reply, idle, done, refused}
 use Rattle.uplink.specs.declared.Record.{Record}
 use Rattle.uplink.specs.Flow.{flowOf}
-use Rattle.uplink.specs.Record.{flowAt, put, moved}
+use Rattle.uplink.specs.Record.{flowAt, put, moved, recordOf}
 use Rattle.uplink.specs.State.{State, Outcome, outcome, state}
 use Rattle.uplink.specs.Pick.{pickRule}
 
@@ -36,6 +36,12 @@ whenPicked step s = byReply (pickRule s .reply) (pickRule s) (λ values. step s 
 -- the record with another tag at flow f
 abbrev pub retagged : ℕ → ℕ → Record → Record
 retagged f tag r = put r f (flowOf tag (flowAt r f .queue))
+
+-- the record with another leap width
+abbrev pub widened : Record → ℕ → Record
+widened r width =
+    recordOf (r .flows) (r .header) width (r .clock .0) (r .link .0) (r .tags .0) (r .queues .share)
+    (r .queues .largest) (r .queues .first) (r .queues .waiting)
 
 -- the state with another record
 abbrev pub reheld : State → Record → State

@@ -13,9 +13,13 @@ use Rattle.rows.specs.Script.{run}
 abbrev pub pair : ℕ → ℕ → List ℕ
 pair a b = a ∷ b ∷ []
 
--- "Two flows, q = 500, largest 100"
+-- "Two flows, q = 500, largest 100", with this header
+abbrev pub openedWith : ℕ → List Call
+openedWith header = opening (pair 500 500) (pair 100 100) header ∷ []
+
+-- "The script opens with 0 for it .. and the examples here are read so."
 abbrev pub opened : List Call
-opened = opening (pair 500 500) (pair 100 100) ∷ []
+opened = openedWith 0
 
 -- "100 bytes at flows 0 and 1"
 abbrev pub oneEach : List Call

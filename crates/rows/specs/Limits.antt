@@ -1,5 +1,5 @@
--- Document 01's numbers on both sides: each bullet of the form, each refusal, and the order of refusals. The numbers
--- are 01's own, written out, so that a limit cannot be moved by a definition and the code together.
+-- The numbers of documents 01 and 02 on both sides: each bullet of the form, each refusal, and the order of refusals. The
+-- numbers are the documents' own, written out, so that a limit cannot be moved by a definition and the code together.
 -- Assumes nothing.
 use mathlib.Core.Path.{_≡_, refl}
 use mathlib.Core.Bool.{true, false}
@@ -15,7 +15,7 @@ use Rattle.uplink.specs.State.{State, state}
 use Rattle.uplink.specs.Calls.{Call, opening, arrival, pick}
 use Rattle.rows.specs.Script.{run, replies}
 use Rattle.rows.specs.Examples.{pair}
-use Rattle.rows.specs.Row.{recordIsBlank, recordStays, memoriesStay, memoriesAreBlank, clockIs, widthIs}
+use Rattle.rows.specs.Row.{recordIsBlank, recordStays, memoriesStay, memoriesAreBlank, clockIs, widthIs, headerIs}
 use Rattle.rows.specs.Row.{Row, row, allHold, Shown, shown, rowsOf, all-hold}
 
 -- a flow: share, largest packet, first place, number waiting, tag
@@ -27,10 +27,15 @@ abbrev putFrom : Record → ℕ → List Flow → Record
 putFrom r f [] = r
 putFrom r f (w ∷ ws) = putFrom (put r f w) (suc f) ws
 
--- a record: number of flows, Δ, clock, link time, and its flows from number 0 on
+-- a record: number of flows, header, Δ, clock, link time, and its flows from number 0 on
+abbrev headed : ℕ → ℕ → ℕ → ℕ → ℕ → List Flow → Record
+headed flows header width clock link =
+    let zeros : List ℕ = replicate 64 0 in
+    putFrom (recordOf flows header width clock link zeros zeros zeros zeros zeros) 0
+
+-- the same without a header
 abbrev holding : ℕ → ℕ → ℕ → ℕ → List Flow → Record
-holding flows width clock link =
-    let zeros : List ℕ = replicate 64 0 in putFrom (recordOf flows width clock link zeros zeros zeros zeros zeros) 0
+holding flows = headed flows 0
 
 -- a memory of 4,096 places that begins so
 abbrev memory : List ℕ → List ℕ
@@ -51,6 +56,10 @@ table flows width ws = given [] (holding flows width 0 0 ws)
 -- a flow of this share and largest packet, with nothing waiting
 abbrev books : ℕ → ℕ → Flow
 books share largest = flow share largest 0 0 0
+
+-- a flow of share 500 and largest packet 100, cost 1,440, with this header and Δ
+abbrev heading : ℕ → ℕ → State
+heading header width = given [] (headed 1 header width 0 0 (books 500 100 ∷ []))
 
 -- a pick on this state gives this reply: the record is inside the form
 abbrev inside : State → Reply → Row
@@ -73,15 +82,23 @@ takes s call = row s (call ∷ []) (done [] ∷ []) []
 abbrev used : State
 used = given (100 ∷ []) (at 0 0 1 144000)
 
--- an opening gives a record of this Δ, and "sets all 4,096 places of both memories to 0"
-abbrev opens : List ℕ → List ℕ → ℕ → Row
-opens shares largest width =
-    row used (opening shares largest ∷ []) (done [] ∷ []) (widthIs width ∷ memoriesAreBlank ∷ [])
+-- an opening with a header gives a record of this Δ, and "sets all 4,096 places of both memories to 0"
+abbrev opensWith : ℕ → List ℕ → List ℕ → ℕ → Row
+opensWith header shares largest width =
+    row used (opening shares largest header ∷ []) (done [] ∷ [])
+    (headerIs header ∷ widthIs width ∷ memoriesAreBlank ∷ [])
 
--- an opening is refused with this number and flow: "(opening: the blank record)"
+-- an opening with a header is refused with this number and flow: "(opening: the blank record)"
+abbrev refusesWith : ℕ → List ℕ → List ℕ → ℕ → ℕ → Row
+refusesWith header shares largest number flow =
+    row used (opening shares largest header ∷ []) (refused number flow ∷ []) (recordIsBlank ∷ memoriesStay ∷ [])
+
+-- the same without a header
+abbrev opens : List ℕ → List ℕ → ℕ → Row
+opens = opensWith 0
+
 abbrev refusesOpening : List ℕ → List ℕ → ℕ → ℕ → Row
-refusesOpening shares largest number flow =
-    row used (opening shares largest ∷ []) (refused number flow ∷ []) (recordIsBlank ∷ memoriesStay ∷ [])
+refusesOpening = refusesWith 0
 
 -- these many places of lengths and of handles, with a record
 abbrev lending : ℕ → ℕ → Record → State
@@ -121,6 +138,14 @@ limits =
     ∷ shown (inside (table 2 144000 (books 500 100 ∷ books 500 99 ∷ [])) idle) refl
     ∷ shown (outside (table 2 143999 (books 500 100 ∷ books 500 99 ∷ []))) refl
     ∷ shown (outside (table 2 144001 (books 500 100 ∷ books 500 99 ∷ []))) refl
+    -- 02 a): a header's "stated range as part of the form", 0 to 64: 64, 65 and the largest that its field holds, each
+    -- with the Δ that it would make: (100 + header) × 1,440
+    ∷ shown (inside (heading 64 236160) idle) refl
+    ∷ shown (outside (heading 65 237600)) refl
+    ∷ shown (outside (heading 65535 94514400)) refl
+    -- Δ uses the charge: with a header of 12 it is 112 × 1,440, and not 100 × 1,440
+    ∷ shown (inside (heading 12 161280) idle) refl
+    ∷ shown (outside (heading 12 144000)) refl
     -- "first .. in range": 63 and 64
     ∷ shown (inside (given [] (at 0 63 0 0)) idle) refl
     ∷ shown (outside (given [] (at 0 64 0 0))) refl
@@ -148,9 +173,12 @@ limits =
     -- "link time is at most the clock": at the clock and one more
     ∷ shown (inside (given [] (holding 1 144000 1000000 1000000 (books 500 100 ∷ []))) idle) refl
     ∷ shown (outside (given [] (holding 1 144000 1000000 1000001 (books 500 100 ∷ [])))) refl
-    -- "the clock is below 2^62 + 1,081,080,000": one below its end and at it
-    ∷ shown (inside (given [] (at (2 ^ 62 + 1081079999) 0 0 0)) idle) refl
-    ∷ shown (outside (given [] (at (2 ^ 62 + 1081080000) 0 0 0))) refl
+    -- 02 a): "the record's clock limit 2^62 + 1,127,206,080": one below its end and at it
+    ∷ shown (inside (given [] (at (2 ^ 62 + 1127206079) 0 0 0)) idle) refl
+    ∷ shown (outside (given [] (at (2 ^ 62 + 1127206080) 0 0 0))) refl
+    -- and the largest leap and the largest charge, 1,564 × 720, take a clock of 2^62 − 1 to one below its end
+    ∷ shown (inside (given (1500 ∷ []) (headed 1 64 1126080000 (2 ^ 62 - 1) 0 (flow 1 1500 0 1 (2 ^ 62 + 3000000000)
+    ∷ []))) (packet 0 1500 7 (2 ^ 62 + 3000000000) true (2 ^ 62 + 1127206079))) refl
     -- "all fields of flows beyond the number of flows are 0": each of them 1, in the flow past the last and in flow 63
     ∷ shown (outside (table 1 144000 (books 500 100 ∷ flow 1 0 0 0 0 ∷ []))) refl
     ∷ shown (outside (table 1 144000 (books 500 100 ∷ flow 0 1 0 0 0 ∷ []))) refl
@@ -166,7 +194,7 @@ limits =
     ∷ shown (refuses (lending 4096 4097 blank) pick 1) refl
     ∷ shown (refuses (lending 4096 4096 blank) pick 2) refl
     -- 1 before 3: no lists
-    ∷ shown (row (lending 4095 4096 blank) (opening [] [] ∷ []) (refused 1 0 ∷ []) (recordIsBlank ∷ memoriesStay ∷ []))
+    ∷ shown (row (lending 4095 4096 blank) (opening [] [] 0 ∷ []) (refused 1 0 ∷ []) (recordIsBlank ∷ memoriesStay ∷ []))
     refl
     -- 3: "the two lists differ in length, or have 0 or over 64 entries"
     ∷ shown (opens (only 500) (only 100) 144000) refl
@@ -174,6 +202,17 @@ limits =
     ∷ shown (refusesOpening [] [] 3 0) refl
     ∷ shown (refusesOpening (replicate 65 15) (replicate 65 100) 3 0) refl
     ∷ shown (refusesOpening (pair 500 500) (only 100) 3 0) refl
+    -- 02 a): "3 also when the header is over 64": 0, 64, 65 and the largest of 32 bits
+    ∷ shown (opensWith 0 (only 500) (only 100) 144000) refl
+    ∷ shown (opensWith 64 (only 500) (only 100) 236160) refl
+    ∷ shown (refusesWith 65 (only 500) (only 100) 3 0) refl
+    ∷ shown (refusesWith 4294967295 (only 500) (only 100) 3 0) refl
+    -- "Δ is then at most 1,126,080,000"
+    ∷ shown (opensWith 64 (only 1) (only 1500) 1126080000) refl
+    -- at 3's place: 1 before it and 4 behind it
+    ∷ shown (row (lending 4095 4096 blank) (opening (only 500) (only 100) 65 ∷ []) (refused 1 0 ∷ [])
+    (recordIsBlank ∷ memoriesStay ∷ [])) refl
+    ∷ shown (refusesWith 65 (only 0) (only 100) 3 0) refl
     -- 3 before 4: the lists differ, and a share is 0
     ∷ shown (refusesOpening (only 0) (pair 100 100) 3 0) refl
     -- 4: "a share is outside 1 to 1,000"; it comes with the flow's number

@@ -45,9 +45,9 @@ rows =
     -- P9: "cost of 11 is 65,455 and of 10 is 72,000"
     ∷ shown (row start [] [] (costIs 11 65455 ∷ costIs 10 72000 ∷ [])) refl
     -- P10: "shares 600 and 400 open"
-    ∷ shown (row start (opening (pair 600 400) (pair 100 100) ∷ []) (taken ∷ []) []) refl
+    ∷ shown (row start (opening (pair 600 400) (pair 100 100) 0 ∷ []) (taken ∷ []) []) refl
     -- P11: "600 and 401 are refused with 6"
-    ∷ shown (row start (opening (pair 600 401) (pair 100 100) ∷ []) (refused 6 0 ∷ []) []) refl
+    ∷ shown (row start (opening (pair 600 401) (pair 100 100) 0 ∷ []) (refused 6 0 ∷ []) []) refl
     -- P12: "length 100 is taken and 101 refused with 8"
     ∷ shown (row (run start opened) (arrival 0 100 7 ∷ arrival 0 101 8 ∷ []) (taken ∷ refused 8 0 ∷ []) []) refl
     ∷ []

@@ -8,6 +8,7 @@ use lib.Dec.{eqb}
 use borrow.Author.Tests.{eqb-false, le-ltb}
 use Rattle.below.specs.Truth.{apart}
 use Rattle.cost.specs.Cost.{costOf}
+use Rattle.cost.specs.Charge.{chargeOf}
 use Rattle.tags.specs.Ticks.{leaps, leapClock, frontTag}
 use Rattle.uplink.specs.Flow.{flowCost}
 use Rattle.uplink.specs.Record.{flowAt, tagOf, waitingOf, moved, with}
@@ -78,7 +79,8 @@ idle-keeps-tags-differs = apart (λ o. tagOf (o .state .held) 0) _ _ refl
 -- "Tagging on arrival behind a waiting packet": a second packet of 100 bytes at flow 0, after P1
 abbrev pub tagsBehind : State → ℕ → ℕ → ℕ → Outcome
 tagsBehind s f n handle =
-    whenDone (retagged f (frontTag (tagOf (s .held) f) (s .held .clock .0) (flowCost (flowAt (s .held) f)) n))
+    whenDone (retagged f (frontTag (tagOf (s .held) f) (s .held .clock .0) (flowCost (flowAt (s .held) f))
+    (chargeOf (s .held .header) n)))
     (arrivalRule s f n handle)
 
 pub tags-behind-differs : tagsBehind bothWait 0 100 9 ≡ arrivalRule bothWait 0 100 9 → ⊥

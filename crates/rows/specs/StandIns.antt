@@ -36,8 +36,8 @@ abbrev clockOf : Record → ℕ
 clockOf r = r .clock .0
 
 -- "a scheduler that refuses everything", with whatever number and flow
-abbrev pub refusesOpening : ℕ → ℕ → List ℕ → List ℕ → List ℕ → List ℕ → Outcome
-refusesOpening number flow shares largest lengths handles = outcome (refused number flow) blank lengths handles
+abbrev pub refusesOpening : ℕ → ℕ → List ℕ → List ℕ → ℕ → List ℕ → List ℕ → Outcome
+refusesOpening number flow shares largest header lengths handles = outcome (refused number flow) blank lengths handles
 
 abbrev pub refusesArrival : ℕ → ℕ → State → ℕ → ℕ → ℕ → Outcome
 refusesArrival number flow s f n handle = record { reply = refused number flow; state = s }
@@ -47,8 +47,8 @@ refusesPick number flow s = record { reply = refused number flow; state = s }
 
 -- it does not open P10's shares
 pub refuses-opening-differs : (number flow : ℕ) →
-    refusesOpening number flow (pair 600 400) (pair 100 100) (start .lengths) (start .handles)
-    ≡ openingRule (pair 600 400) (pair 100 100) (start .lengths) (start .handles) → ⊥
+    refusesOpening number flow (pair 600 400) (pair 100 100) 0 (start .lengths) (start .handles)
+    ≡ openingRule (pair 600 400) (pair 100 100) 0 (start .lengths) (start .handles) → ⊥
 unfolding everyRule
 refuses-opening-differs number flow = apart (λ o. refusals (o .reply)) _ _ refl
 
