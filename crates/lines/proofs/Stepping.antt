@@ -62,7 +62,7 @@ module _ (s : Script) (out : List ℕ) (written : ℕ) where
   pub opening-stepped : (n : ℕ) (r : Opened) (lengths handles lengths' handles' : List ℕ) → n ≡ min (s .rows) 65
       → length (s .shares) ≡ 65 → length (s .largest) ≡ 65
       → outcome (openingReply (r .reply)) (r .next) lengths' handles'
-      ≡ openingRule (take n (s .shares)) (take n (s .largest)) lengths handles
+      ≡ openingRule (take n (s .shares)) (take n (s .largest)) 0 lengths handles
       → Written out written (openingLine (openingReply (r .reply)))
       → Gives (stepped (holding s (r .next)) written) lengths' handles' out
       (openingStep (scriptState s lengths handles))

@@ -48,9 +48,9 @@ rowStep s share largest =
 abbrev pub called : ScriptState → Outcome → (Reply → List ℕ) → Made
 called s o line = made (s .shares) (s .largest) (o .state) (line (o .reply))
 
--- "`o` opens": the rows so far are the table
+-- "`o` opens": the rows so far are the table; "The script opens with 0" for the header
 unfoldable pub openingStep : ScriptState → Made
-openingStep s = called s (openingRule (s .shares) (s .largest) (s .held .lengths) (s .held .handles)) openingLine
+openingStep s = called s (openingRule (s .shares) (s .largest) 0 (s .held .lengths) (s .held .handles)) openingLine
 
 unfoldable pub arrivalStep : ScriptState → ℕ → ℕ → ℕ → Made
 arrivalStep s flow length handle = called s (arrivalRule (s .held) flow length handle) arrivalLine

@@ -29,6 +29,9 @@ pub fn start() -> Script
     }
 }
 
+// A script's packets carry no header.
+const NO_HEADER: u32 = 0;
+
 // How many rows count: there are places for 65.
 fn counted(rows: usize) -> usize
     ensures { λ r. ⌜ r ≡ min rows 65 ⌝ }
@@ -65,7 +68,13 @@ impl Script {
         let shares = self.shares;
         let largest = self.largest;
         let rows = counted(self.rows);
-        let opened = Record::opening(&shares[..rows], &largest[..rows], lengths, handles);
+        let opened = Record::opening(
+            &shares[..rows],
+            &largest[..rows],
+            NO_HEADER,
+            lengths,
+            handles,
+        );
         let held = opened.next;
         let reply = opened.reply;
         let written = write_opening(out, reply);
