@@ -19,7 +19,7 @@ use Rattle.tags.specs.Ticks.{ticks}
 use Rattle.tags.specs.declared.ServerTicks.{ServerTicks}
 use Rattle.uplink.specs.Record.{flowAt, tagOf, linkTime, tagsOf}
 use Rattle.uplink.specs.declared.Record.{Record}
-use Rattle.gateway.specs.Image.{fourAt, fieldWords, quarter, fieldIn, part, wordsOf, recordOf}
+use Rattle.gateway.specs.Image.{fourAt, fieldWords, quarter, fieldIn, headWord, part, wordsOf, recordOf}
 use Rattle.gateway.specs.Images.{in-length, entry-at, entry, words-length}
 use Rattle.gateway.specs.Depth.{depthOf}
 use Rattle.gateway.specs.Step.{stepWords}
@@ -58,7 +58,8 @@ pub record-read : (words tags share largest first waiting : List ℕ) → tags �
     → share ≡ fieldIn (part words 67 16) → largest ≡ fieldIn (part words 83 16) → first ≡ fieldIn (part words 99 16)
     → waiting ≡ fieldIn (part words 115 16)
     → record {
-      flows = getD words 0 0 % 2 ^ 32;
+      flows = getD words 0 0 % 2 ^ 16;
+      header = getD words 0 0 / 2 ^ 16 % 2 ^ 16;
       width = getD words 0 0 / 2 ^ 32;
       clock = ticks (getD words 1 0);
       link = linkTime (getD words 2 0);
@@ -108,10 +109,10 @@ regroup a b c d e = append-assoc (a ++ b ++ c) d e ∙ append-assoc (a ++ b) c (
 -- a record written part by part
 module _ (w0 : List ℕ) (long : length w0 ≡ 131) (r : Record) where
   abbrev head : List ℕ
-  head = (r .flows + 2 ^ 32 * r .width) ∷ r .clock .0 ∷ r .link .0 ∷ []
+  head = headWord r ∷ r .clock .0 ∷ r .link .0 ∷ []
 
   abbrev block0 : List ℕ
-  block0 = set (set (set w0 0 (r .flows + 2 ^ 32 * r .width)) 1 (r .clock .0)) 2 (r .link .0)
+  block0 = set (set (set w0 0 (headWord r)) 1 (r .clock .0)) 2 (r .link .0)
 
   pub filled-head : Filled w0 3 head block0
   filled-head = head-filled w0 _ _ _ (omega (arith, long))

@@ -63,19 +63,19 @@ module _ (block lengths handles : List ℕ) (h : length block ≡ 131) (at : Rep
       → putMid 3 64 (stepWords block next (at reply)) tags ≡ wordsOf next
   block-idle tags t = step-rested block tags next (at reply) h (F .kept) t
 
-module _ (shares largest block lengths handles : List ℕ) where
+module _ (shares largest : List ℕ) (header : ℕ) (block lengths handles : List ℕ) where
   pub opening-unblocked : (length block ≡ 131 → ⊥)
       → answered 101 (lending block lengths handles [])
-      ≡ gatewayOpening shares largest (lending block lengths handles [])
+      ≡ gatewayOpening shares largest header (lending block lengths handles [])
   unfolding gatewayOpening
   opening-unblocked h = rw (ne-eqb (length block) 131 h)
 
   module _ (block' lengths' handles' : List ℕ) (reply : OpeningReply) (next : Record) (h : length block ≡ 131)
-      (e : outcome (openingReply reply) next lengths' handles' ≡ openingRule shares largest lengths handles)
+      (e : outcome (openingReply reply) next lengths' handles' ≡ openingRule shares largest header lengths handles)
       (b : block' ≡ wordsOf next) where
     opening-told : (answer : ℕ) → answer ≡ withFlow (openingReply reply) → [] ≡ valuesOr (openingReply reply) []
         → answered answer (lending block' lengths' handles' [])
-        ≡ gatewayOpening shares largest (lending block lengths handles [])
+        ≡ gatewayOpening shares largest header (lending block lengths handles [])
     unfolding gatewayOpening
     opening-told answer a w = rw (eq-eqb (length block) 131 h)
         (outcome-told withFlow (lending block lengths handles []) _ next lengths' handles' _ e answer block' [] a b w)
@@ -83,13 +83,13 @@ module _ (shares largest block lengths handles : List ℕ) where
     pub opening-refused : (why : Refusal) (number flow : ℕ) → reply ≡ OpeningReply.Refused why
         → number ≡ replyNumber (refusal why) → flow ≡ replyFlow (refusal why)
         → answered (number + 2 ^ 32 * flow) (lending block' lengths' handles' [])
-        ≡ gatewayOpening shares largest (lending block lengths handles [])
+        ≡ gatewayOpening shares largest header (lending block lengths handles [])
     opening-refused why number flow q n f =
         opening-told _ (rw (q, n, f, number-told why)) (rw q (values-kept why []))
 
     pub opening-done : reply ≡ OpeningReply.Done
         → answered 0 (lending block' lengths' handles' [])
-        ≡ gatewayOpening shares largest (lending block lengths handles [])
+        ≡ gatewayOpening shares largest header (lending block lengths handles [])
     opening-done q = opening-told 0 (rw q) (rw q)
 
 module _ (flow bytes handle : ℕ) (block lengths handles : List ℕ) where
@@ -208,18 +208,18 @@ module _ (flow : ℕ) (block reply : List ℕ) where
         (ap (λ a. outcome a (recordOf block) [] []) e) number block reply' n (sym (words-of-record block h)) w)
 
     -- 7: the flow is not counted, or it is none of 64
-    pub depth-refused : (number : ℕ) → number ≡ 7 → (getD block 0 0 % 2 ^ 32 ≤ flow) ⊎ (64 ≤ flow)
+    pub depth-refused : (number : ℕ) → number ≡ 7 → (getD block 0 0 % 2 ^ 16 ≤ flow) ⊎ (64 ≤ flow)
         → answered number (lending block [] [] reply) ≡ gatewayDepth flow (lending block [] [] reply)
     unfolding recordOf
     depth-refused number n (inl over) =
-        depth-told number reply (refused 7 0) (rw (le-ltb flow (getD block 0 0 % 2 ^ 32) over)) n refl
+        depth-told number reply (refused 7 0) (rw (le-ltb flow (getD block 0 0 % 2 ^ 16) over)) n refl
     depth-refused number n (inr over) =
         depth-told number reply (refused 7 0) (rw (le-ltb flow 64 over, and-false)) n refl
 
-    pub depth-done : (reply' : List ℕ) → flow < getD block 0 0 % 2 ^ 32 → flow < 64
+    pub depth-done : (reply' : List ℕ) → flow < getD block 0 0 % 2 ^ 16 → flow < 64
         → done reply' ≡ depthOf (flowAt (recordOf block) flow)
         → answered 0 (lending block [] [] reply') ≡ gatewayDepth flow (lending block [] [] reply)
     unfolding recordOf
     depth-done reply' counted below d =
         depth-told 0 reply' (done reply')
-        (d ∙ rw (lt-ltb flow (getD block 0 0 % 2 ^ 32) counted, lt-ltb flow 64 below)) refl refl
+        (d ∙ rw (lt-ltb flow (getD block 0 0 % 2 ^ 16) counted, lt-ltb flow 64 below)) refl refl

@@ -40,9 +40,9 @@ pub opening-determined : (κs : Lfts 5) (a : ArgsD opening.signature κs) (r q :
     (s t : AtExit (endedOf 5 opening-kinds.ps opening-kinds.r) κs)
     → opening-reads.Post κs a r s → opening-reads.Post κs a q t
     → (r ≡ q)
-    × (now (s .1 .1 .0) ≡ now (t .1 .1 .0))
     × (now (s .1 .1 .1 .0) ≡ now (t .1 .1 .1 .0))
     × (now (s .1 .1 .1 .1 .0) ≡ now (t .1 .1 .1 .1 .0))
+    × (now (s .1 .1 .1 .1 .1 .0) ≡ now (t .1 .1 .1 .1 .1 .0))
 opening-determined κs a r q s t e f =
     let o = one r q _ _ _ _ _ _ [] [] (e ∙ sym f) in (o .0, o .1, o .2, o .3)
 

@@ -40,6 +40,7 @@ kept-same r f h =
     record {
       below = h;
       flows = refl;
+      header = refl;
       width = refl;
       share = refl;
       largest = refl;
@@ -68,6 +69,7 @@ module _ (s : State) (at : Reply → ℕ) where
             record {
               below = h;
               flows = refl;
+              header = refl;
               width = refl;
               share = refl;
               largest = refl;
@@ -90,6 +92,7 @@ module _ (s : State) (at : Reply → ℕ) where
         kept = rw e record {
           below = h;
           flows = refl;
+          header = refl;
           width = refl;
           share = rw (share, set-getD (r .queues .share) f 0);
           largest = rw (largest, set-getD (r .queues .largest) f 0);

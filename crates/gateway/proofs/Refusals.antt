@@ -29,25 +29,25 @@ unfolding wordsOf fieldWords field64 listed
 blank-words = refl
 
 -- what an opening leaves by its reply, where that is not done
-opened-blank : (shares largest : List ℕ) (lent : Lent) (reply : Reply) → (withFlow reply ≡ 0 → ⊥)
-    → told withFlow (openedBy reply shares largest (lent .lengths) (lent .handles)) lent .left
+opened-blank : (shares largest : List ℕ) (header : ℕ) (lent : Lent) (reply : Reply) → (withFlow reply ≡ 0 → ⊥)
+    → told withFlow (openedBy reply shares largest header (lent .lengths) (lent .handles)) lent .left
     ≡ lending (replicate 131 0) (lent .lengths) (lent .handles) (lent .reply)
 unfolding told
-opened-blank shares largest lent idle n = rw blank-words
-opened-blank shares largest lent (done values) n = absurd (n refl)
-opened-blank shares largest lent (refused number flow) n = rw blank-words
+opened-blank shares largest header lent idle n = rw blank-words
+opened-blank shares largest header lent (done values) n = absurd (n refl)
+opened-blank shares largest header lent (refused number flow) n = rw blank-words
 
 -- an opening of a block of 131 words that is not done leaves 131 words of 0, and the rest as it came
-pub refused-opening : (shares largest : List ℕ) (lent : Lent) → length (lent .block) ≡ 131
-    → (gatewayOpening shares largest lent .answer ≡ 0 → ⊥)
-    → gatewayOpening shares largest lent .left
+pub refused-opening : (shares largest : List ℕ) (header : ℕ) (lent : Lent) → length (lent .block) ≡ 131
+    → (gatewayOpening shares largest header lent .answer ≡ 0 → ⊥)
+    → gatewayOpening shares largest header lent .left
     ≡ lending (replicate 131 0) (lent .lengths) (lent .handles) (lent .reply)
 unfolding gatewayOpening openingRule told
-refused-opening shares largest lent h n =
-    let reply = listsReply shares largest (lent .lengths) (lent .handles) in
+refused-opening shares largest header lent h n =
+    let reply = listsReply shares largest header (lent .lengths) (lent .handles) in
     let block = eq-eqb (length (lent .block)) 131 h in
-    rw block (opened-blank shares largest lent reply
-    (rw (block, opened-reply reply shares largest (lent .lengths) (lent .handles)) at n))
+    rw block (opened-blank shares largest header lent reply
+    (rw (block, opened-reply reply shares largest header (lent .lengths) (lent .handles)) at n))
 
 -- the answer of a refusal: neither done nor idle
 abbrev Refused : Answered → Type 0

@@ -2,7 +2,7 @@
 -- Assumes nothing.
 use mathlib.Core.Path.{_≡_, refl, sym, ap, _∙_}
 use mathlib.Core.List.{List, [], _∷_, _++_}
-use Prim.Native.Nat.{ℕ, suc, _+_, _*_, _/_, _^_, _<_}
+use Prim.Native.Nat.{ℕ, suc, _+_, _*_, _/_, _<_}
 use native.Mathlib.Nat.{zero-add, suc-add}
 use native.Mathlib.Decide.{ℕ-discrete}
 use native.Mathlib.Omega.{arith}
@@ -13,7 +13,7 @@ use Rattle.queues.specs.Opening.{field64}
 use Rattle.queues.specs.Laws.{field-length}
 use Rattle.uplink.specs.Record.{tagOf, with, tagsOf}
 use Rattle.uplink.specs.declared.Record.{Record}
-use Rattle.gateway.specs.Image.{fourAt, fieldWords, wordsOf, recordOf}
+use Rattle.gateway.specs.Image.{fourAt, fieldWords, headWord, wordsOf, recordOf}
 use Rattle.gateway.specs.Images.{words-length, field-word, field-same, rows-read, words-of-record}
 use Rattle.gateway.specs.Step.{stepWords, Kept}
 
@@ -94,13 +94,14 @@ step-words words next f h K =
     = ap (λ l. set l f t) (field-same (r .tags .0) long)
     ∙ sym (field-same (set (r .tags .0) f t) (length-set (r .tags .0) f t ∙ long)) in
     ap (λ l. stepWords l next f) (sym (words-of-record words h))
-    ∙ five-words (r .flows + 2 ^ 32 * r .width) (r .clock .0) (r .link .0) (next .clock .0) (next .link .0) t
+    ∙ five-words (headWord r) (r .clock .0) (r .link .0) (next .clock .0) (next .link .0) t
     (fourAt (next .queues .first) (f / 4)) (fourAt (next .queues .waiting) (f / 4)) f (field64 (r .tags .0))
     (fieldWords (r .queues .share)) (fieldWords (r .queues .largest)) (fieldWords (r .queues .first))
     (fieldWords (r .queues .waiting)) (K .below) (field-length (r .tags .0)) (words-length _) (words-length _)
     (words-length _)
     ∙ rw (
       K .flows,
+      K .header,
       K .width,
       K .share,
       K .largest,

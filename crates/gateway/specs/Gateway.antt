@@ -1,5 +1,5 @@
 -- What the four calls of include/uplink.h answer, and what they leave in all that is lent: the rules of document 01
--- and that of a depth, over the record that the block is the image of.
+-- with document 02 a)'s header, and that of a depth, over the record that the block is the image of.
 -- Assumes nothing.
 use mathlib.Core.Bool.{Bool, cond}
 use mathlib.Core.List.{List}
@@ -70,9 +70,9 @@ held lent = state (recordOf (lent .block)) (lent .lengths) (lent .handles)
 abbrev blocked : Lent → Answered → Answered
 blocked lent on = demand (eqb (length (lent .block)) 131) 101 lent on
 
-unfoldable pub gatewayOpening : List ℕ → List ℕ → Lent → Answered
-gatewayOpening shares largest lent =
-    blocked lent (told withFlow (openingRule shares largest (lent .lengths) (lent .handles)) lent)
+unfoldable pub gatewayOpening : List ℕ → List ℕ → ℕ → Lent → Answered
+gatewayOpening shares largest header lent =
+    blocked lent (told withFlow (openingRule shares largest header (lent .lengths) (lent .handles)) lent)
 
 unfoldable pub gatewayArrival : ℕ → ℕ → ℕ → Lent → Answered
 gatewayArrival flow length handle lent =

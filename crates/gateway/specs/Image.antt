@@ -1,7 +1,8 @@
 -- The record as the caller of the library keeps it: a block of 131 words of 64 bits, in the record's own order.
--- Word 0 is the number of flows with the leap width above it, word 1 the clock, word 2 the link time; words 3 to 66 are
--- the tags of flows 0 to 63; words 67 to 82 are the shares, 83 to 98 the largest packets, 99 to 114 the first places
--- and 115 to 130 the numbers waiting, four flows to a word, 16 bits each, the lowest flow lowest.
+-- Word 0 is the number of flows in its low 16 bits, the header in the next 16 and the leap width in the high 32; word 1
+-- is the clock, word 2 the link time; words 3 to 66 are the tags of flows 0 to 63; words 67 to 82 are the shares, 83 to
+-- 98 the largest packets, 99 to 114 the first places and 115 to 130 the numbers waiting, four flows to a word, 16 bits
+-- each, the lowest flow lowest.
 -- Assumes nothing.
 use mathlib.Core.List.{List, _∷_, _++_}
 use Prim.Native.Nat.{ℕ, zero, suc, _+_, _*_, _/_, _%_, _^_}
@@ -36,10 +37,14 @@ quarter word (suc (suc (suc j))) = word / 2 ^ 48
 unfoldable pub fieldIn : List ℕ → List ℕ
 fieldIn words = listed (λ f. quarter (getD words (f / 4) 0) (f % 4)) 0 64
 
+-- word 0: the number of flows, the header and the leap width
+abbrev pub headWord : Record → ℕ
+headWord r = r .flows + 2 ^ 16 * r .header + 2 ^ 32 * r .width
+
 -- the block of a record
 unfoldable pub wordsOf : Record → List ℕ
 wordsOf r =
-    (r .flows + 2 ^ 32 * r .width) ∷ r .clock .0 ∷ r .link .0
+    headWord r ∷ r .clock .0 ∷ r .link .0
     ∷ (field64 (r .tags .0)
     ++ (fieldWords (r .queues .share)
     ++ (fieldWords (r .queues .largest)
@@ -54,7 +59,8 @@ part words a n = take n (drop a words)
 unfoldable pub recordOf : List ℕ → Record
 recordOf words =
     record {
-      flows = getD words 0 0 % 2 ^ 32;
+      flows = getD words 0 0 % 2 ^ 16;
+      header = getD words 0 0 / 2 ^ 16 % 2 ^ 16;
       width = getD words 0 0 / 2 ^ 32;
       clock = ticks (getD words 1 0);
       link = linkTime (getD words 2 0);

@@ -13,7 +13,7 @@ use Rattle.queues.specs.Opening.{field64}
 use Rattle.queues.specs.Laws.{field-at, field-length}
 use Rattle.uplink.specs.Record.{Rows}
 use Rattle.uplink.specs.declared.Record.{Record}
-use Rattle.gateway.specs.Image.{fourAt, fieldWords, quarter, fieldIn, part, wordsOf, recordOf}
+use Rattle.gateway.specs.Image.{fourAt, fieldWords, quarter, fieldIn, headWord, part, wordsOf, recordOf}
 
 -- ---- one field
 
@@ -96,7 +96,8 @@ module _ (words : List ℕ) (h : length words ≡ 131) where
   pub words-of-record : wordsOf (recordOf words) ≡ words
   unfolding wordsOf recordOf
   words-of-record =
-      let head : getD words 0 0 % 2 ^ 32 + 2 ^ 32 * (getD words 0 0 / 2 ^ 32) ≡ getD words 0 0 = omega arith in
+      let n = getD words 0 0 in
+      let head : n % 2 ^ 16 + 2 ^ 16 * (n / 2 ^ 16 % 2 ^ 16) + 2 ^ 32 * (n / 2 ^ 32) ≡ n = omega arith in
       rw (
         head,
         field-same (part words 3 64) tags-long,
@@ -121,7 +122,8 @@ module _ (words : List ℕ) (h : length words ≡ 131) where
 
 -- the fields of a record fit their types, and it has its 64 rows
 pub record Fits (r : Record) : Type 0 where
-  pub flows : r .flows < 2 ^ 32
+  pub flows : r .flows < 2 ^ 16
+  pub header : r .header < 2 ^ 16
   pub width : r .width < 2 ^ 32
   pub rows : Rows r
   pub share : (f : ℕ) → getD (r .queues .share) f 0 < 2 ^ 16
@@ -169,10 +171,13 @@ record-of-words r F =
     let behind-share = drop-on rest share _ 64 16 80 behind-tags (words-length _) refl in
     let behind-largest = drop-on rest largest _ 80 16 96 behind-share (words-length _) refl in
     let behind-first = drop-on rest first _ 96 16 112 behind-largest (words-length _) refl in
-    let low : (r .flows + 2 ^ 32 * r .width) % 2 ^ 32 ≡ r .flows = omega (arith, F .flows) in
-    let high : (r .flows + 2 ^ 32 * r .width) / 2 ^ 32 ≡ r .width = omega (arith, F .flows) in
+    let low : headWord r % 2 ^ 16 ≡ r .flows = omega (arith, F .flows) in
+    let above : headWord r / 2 ^ 16 ≡ r .header + 2 ^ 16 * r .width = omega (arith, F .flows) in
+    let middle : headWord r / 2 ^ 16 % 2 ^ 16 ≡ r .header = rw above (omega (arith, F .header)) in
+    let high : headWord r / 2 ^ 32 ≡ r .width = omega (arith, F .flows, F .header) in
     rw (
       low,
+      middle,
       high,
       behind-tags,
       behind-share,

@@ -16,20 +16,31 @@ use Rattle.gateway.specs.Gateway.{gatewayOpening, gatewayArrival, gatewa
 abbrev fresh : ℕ → Lent
 fresh words = lending (replicate words 1) (replicate 4096 0) (replicate 4096 0) []
 
--- and after it, with a reply of so many words: two flows of share 500 and largest packet 100
+-- and after it, with a reply of so many words: two flows of share 500 and largest packet 100, with no header
 abbrev opened : ℕ → Lent
-opened words = let left = gatewayOpening (500 ∷ 500 ∷ []) (100 ∷ 100 ∷ []) (fresh 131) .left in
+opened words = let left = gatewayOpening (500 ∷ 500 ∷ []) (100 ∷ 100 ∷ []) 0 (fresh 131) .left in
     lending (left .block) (left .lengths) (left .handles) (replicate words 1)
 
 -- "record has not exactly UPLINK_RECORD_WORDS words": a block of 130 words is taken for one of 131
-abbrev pub takes130 : List ℕ → List ℕ → Lent → Answered
-takes130 shares largest lent =
-    gatewayOpening shares largest (lending (lent .block ++ 0 ∷ []) (lent .lengths) (lent .handles) (lent .reply))
+abbrev pub takes130 : List ℕ → List ℕ → ℕ → Lent → Answered
+takes130 shares largest header lent =
+    gatewayOpening shares largest header (lending (lent .block ++ 0 ∷ []) (lent .lengths) (lent .handles) (lent .reply))
 
-pub takes-130-differs : takes130 (500 ∷ []) (100 ∷ []) (fresh 130) ≡ gatewayOpening (500 ∷ []) (100 ∷ []) (fresh 130)
+pub takes-130-differs : takes130 (500 ∷ []) (100 ∷ []) 0 (fresh 130)
+    ≡ gatewayOpening (500 ∷ []) (100 ∷ []) 0 (fresh 130)
     → ⊥
 unfolding everyRule told gatewayOpening wordsOf fieldWords
 takes-130-differs = apart (λ a. a .answer) _ _ refl
+
+-- "The opening takes a header size, 0 to 64, which the record keeps" (02 a): an opening drops it, here a header of 12
+abbrev pub dropsHeader : List ℕ → List ℕ → ℕ → Lent → Answered
+dropsHeader shares largest header lent = gatewayOpening shares largest 0 lent
+
+pub drops-header-differs : dropsHeader (500 ∷ 500 ∷ []) (100 ∷ 100 ∷ []) 12 (fresh 131)
+    ≡ gatewayOpening (500 ∷ 500 ∷ []) (100 ∷ 100 ∷ []) 12 (fresh 131)
+    → ⊥
+unfolding everyRule told gatewayOpening wordsOf fieldWords
+drops-header-differs = apart (λ a. getD (a .left .block) 0 0) _ _ refl
 
 -- "no such flow": a refused arrival is told as done, here at flow 2 of two
 abbrev pub refusedIsDone : ℕ → ℕ → ℕ → Lent → Answered

@@ -27,6 +27,7 @@ flowIn (refused number flow) = 0
 pub record Kept (r next : Record) (f : ℕ) : Type 0 where
   pub below : f < 64
   pub flows : next .flows ≡ r .flows
+  pub header : next .header ≡ r .header
   pub width : next .width ≡ r .width
   pub share : next .queues .share ≡ r .queues .share
   pub largest : next .queues .largest ≡ r .queues .largest

@@ -1,4 +1,5 @@
 // The record as a block of 131 words, and back: specs/Image.antt. The words stand in the record's own order.
+// Word 0 holds the number of flows in its low 16 bits, the header in the next 16 and the leap width in the high 32.
 // Nothing is tested here: any words are a record's, and the form test is in the calls.
 ghost use mathlib.Core.Path.{_≡_};
 ghost use Prim.Native.Nat.{_<_};
@@ -69,7 +70,8 @@ pub(crate) fn record_of(words: &[u64]) -> Record
     ensures { λ r. ⌜ r ≡ recordOf (now (words .entry)) ⌝ }
 {
     let mut r = Record::blank();
-    r.flows = (words[0] % 4294967296) as u32;
+    r.flows = (words[0] % 65536) as u16;
+    r.header = (words[0] / 65536 % 65536) as u16;
     r.width = (words[0] / 4294967296) as u32;
     r.clock.0 = words[1];
     r.link.0 = words[2];
@@ -129,7 +131,7 @@ pub(crate) fn write_record(r: Record, words: &mut [u64])
     requires { ⌜ length (now words) ≡ 131 ⌝ }
     ensures { λ _. ⌜ now (words .exit) ≡ wordsOf r ⌝ }
 {
-    words[0] = r.flows as u64 + 4294967296 * (r.width as u64);
+    words[0] = r.flows as u64 + 65536 * (r.header as u64) + 4294967296 * (r.width as u64);
     words[1] = r.clock.0;
     words[2] = r.link.0;
     write_tags(&r.tags.0, &mut words[3..67]);

@@ -67,23 +67,24 @@ fn write_packet(
     reply[5] = clock.0;
 }
 
-// Opens a table: its flows' shares and largest packets.
+// Opens a table: its flows' shares and largest packets, and the link header of every packet.
 #[no_mangle]
 pub extern "C" fn uplink_opening(
     shares: &[u32],
     largest: &[u32],
+    header: u32,
     block: &mut [u64],
     lengths: &mut [u16],
     handles: &mut [u32],
 ) -> u64
     ensures exact { λ r. ⌜ answered r (lending (now (block .exit)) (now (lengths .exit)) (now (handles .exit)) [])
-        ≡ gatewayOpening (now (shares .entry)) (now (largest .entry))
+        ≡ gatewayOpening (now (shares .entry)) (now (largest .entry)) header
         (lending (now (block .entry)) (now (lengths .entry)) (now (handles .entry)) []) ⌝ }
 {
     if block.len() != BLOCK_WORDS {
         return REFUSED_RECORD as u64;
     }
-    let opened = Record::opening(shares, largest, lengths, handles);
+    let opened = Record::opening(shares, largest, header, lengths, handles);
     let answer = opened.reply;
     let next = opened.next;
     image::write_record(next, block);
@@ -212,7 +213,7 @@ pub extern "C" fn uplink_depth(flow: u32, block: &[u64], reply: &mut [u64]) -> u
     if reply.len() != DEPTH_WORDS {
         return REFUSED_REPLY;
     }
-    let flows = block[0] % 4294967296;
+    let flows = block[0] % 65536;
     if flow as u64 >= flows || flow >= 64 {
         return Refusal::NoFlow.number();
     }

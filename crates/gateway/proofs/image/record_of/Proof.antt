@@ -20,13 +20,19 @@ shared-slice-read-r-2 : tie.Need-shared-slice-read-r-2
 shared-slice-read-r-2 c = search needs
 
 cast-r-2 : tie.Need-cast-r-2
-cast-r-2 c = omega (arith, c .shared-slice-known3 .given 0 .fits)
+cast-r-2 c = search needs
 
 shared-slice-read-r-3 : tie.Need-shared-slice-read-r-3
 shared-slice-read-r-3 c = search needs
 
+cast-r-3 : tie.Need-cast-r-3
+cast-r-3 c = omega (arith, c .shared-slice-known4 .given 0 .fits)
+
 shared-slice-read-r-4 : tie.Need-shared-slice-read-r-4
 shared-slice-read-r-4 c = search needs
+
+shared-slice-read-r-5 : tie.Need-shared-slice-read-r-5
+shared-slice-read-r-5 c = search needs
 
 sub-tags-in : tie.Need-sub-tags-in
 sub-tags-in c = search needs
@@ -110,7 +116,7 @@ returns c =
     let first = second .before .before .before .before in
     let tagged = first .before .before .before .before in
     let linked = tagged .before .before .before .before .before .before in
-    let start = linked .before .before .before .before .before .before in
+    let start = linked .before .before .before .before .before .before .before in
     record-read (start .args .words .now) _ _ _ _ _
     (tagged .set-tags .ensures ∙ tagged .before .tags-in .ensures)
     (first .set-field .ensures ∙ first .before .field-in .ensures)
@@ -128,7 +134,9 @@ record-of-spec =
     shared-slice-read-r-2
     cast-r-2
     shared-slice-read-r-3
+    cast-r-3
     shared-slice-read-r-4
+    shared-slice-read-r-5
     sub-tags-in
     part-tags-in-start
     part-tags-in-end

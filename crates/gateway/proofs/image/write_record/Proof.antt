@@ -20,6 +20,15 @@ mul-words c = search needs
 add-words : tie.Need-add-words
 add-words c = search needs
 
+cast-words-3 : tie.Need-cast-words-3
+cast-words-3 c = search needs
+
+mul-words-2 : tie.Need-mul-words-2
+mul-words-2 c = search needs
+
+add-words-2 : tie.Need-add-words-2
+add-words-2 c = search needs
+
 slice-write-words : tie.Need-slice-write-words
 slice-write-words c = search needs
 
@@ -27,7 +36,7 @@ slice-write-words-2 : tie.Need-slice-write-words-2
 slice-write-words-2 c = search needs
 
 slice-write-words-3 : tie.Need-slice-write-words-3
-slice-write-words-3 c = search needs
+slice-write-words-3 c = simp length-set (omega arith)
 
 sub-write-tags : tie.Need-sub-write-tags
 sub-write-tags c = search needs
@@ -160,6 +169,9 @@ write-record-spec =
     cast-words-2
     mul-words
     add-words
+    cast-words-3
+    mul-words-2
+    add-words-2
     slice-write-words
     slice-write-words-2
     slice-write-words-3
