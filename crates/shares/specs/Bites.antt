@@ -1,36 +1,39 @@
 -- The statements bite: worked runs, computed by the rules themselves on memories of 4,096 places.
 -- `fair` meets what demand 3 asks, and W and S are not 0. `tight` shows that the 3 of 3Δ cannot be 2.
+-- `headed` has a header (document 02 a): W and S are charges, and by the packets' own bytes demand 3 would not hold.
 -- `lazy` shows that the stand-in that keeps its books on the first pick, and afterwards only reports, breaks demand 3.
 -- Assumes nothing.
 use mathlib.Core.Path.{_≡_, refl, sym}
-use mathlib.Core.Bool.{Bool, true, false, _&&_}
+use mathlib.Core.Bool.{Bool, true, false, cond, _&&_}
 use mathlib.Core.List.{List, [], _∷_}
 use Prim.Native.Nat.{ℕ, zero, suc, _+_, _*_, _≤_, _<_}
 use native.Mathlib.Omega.{arith}
-use lib.Dec.{ltb, lit<, lit≤}
+use lib.Dec.{eqb, ltb, lit<, lit≤}
 use lib.ListN.{replicate}
 use borrow.Author.Tests.{ltb-true}
 use Rattle.below.specs.Truth.{true-false, both-true}
+use Rattle.reply.specs.Reply.{done}
 use Rattle.uplink.specs.Flow.{flowCost}
 use Rattle.uplink.specs.Record.{flowAt, tagOf, waitingOf}
 use Rattle.uplink.specs.State.{State, Outcome}
 use Rattle.uplink.specs.Pick.{pickRule}
 use Rattle.uplink.specs.Calls.{Call, opening, arrival, pick, start, afterCall, everyRule}
 use Rattle.shares.specs.Runs.{takeRule, Taken, valueIn, NoOpening, Event, Stretch, endOf, runOf, openingIn}
-use Rattle.shares.specs.Runs.{Carried, opened, picked, pickedOf, WaitsAtPicks}
+use Rattle.shares.specs.Runs.{Carried, opened, ofPacket, total, picked, pickedOf, WaitsAtPicks}
 use Rattle.shares.specs.Shares.{share}
 use Rattle.shares.specs.Rule.{rule-carried, rule-share}
 
--- a worked run: a table, the calls before the stretch, and the stretch
+-- a worked run: a table and a header, the calls before the stretch, and the stretch
 pub record Worked : Type 0 where
   pub shares : List ℕ
   pub largest : List ℕ
+  pub header : ℕ
   pub before : List Call
   pub stretch : List Call
 
 -- the state after the opening
 abbrev pub openedOf : Worked → State
-openedOf w = openingIn start (w .shares) (w .largest) .state
+openedOf w = openingIn start (w .shares) (w .largest) (w .header) .state
 
 -- the state in which the stretch begins, and the stretch by document 01's rule
 abbrev pub beginOf : Worked → State
@@ -57,16 +60,22 @@ pub record Shows (w : Worked) (run : List Event) (f W S cost width : ℕ) : Type
 -- no call is an opening, as a test to be computed
 abbrev plainAll : List Call → Bool
 plainAll [] = true
-plainAll (opening shares largest ∷ calls) = false
+plainAll (opening shares largest header ∷ calls) = false
 plainAll (arrival flow length handle ∷ calls) = plainAll calls
 plainAll (pick ∷ calls) = plainAll calls
 
 -- and what it says
 plain-of : (calls : List Call) → plainAll calls ≡ true → NoOpening calls
 plain-of [] e = tt
-plain-of (opening shares largest ∷ calls) e = true-false (sym e)
+plain-of (opening shares largest header ∷ calls) e = true-false (sym e)
 plain-of (arrival flow length handle ∷ calls) e = (tt, plain-of calls e)
 plain-of (pick ∷ calls) e = (tt, plain-of calls e)
+
+-- where the opening is accepted and no other is before the stretch, the stretch begins in a carried state
+begin-carried : (w : Worked) → openingIn start (w .shares) (w .largest) (w .header) .reply ≡ done []
+    → plainAll (w .before) ≡ true → Carried (beginOf w)
+begin-carried w accepted plain =
+    rule-carried (opened start (w .shares) (w .largest) (w .header) accepted) (w .before) (plain-of (w .before) plain)
 
 -- flow f waits at every call, as a test to be computed
 abbrev waitsAll : ℕ → State → List Event → Bool
@@ -79,12 +88,19 @@ waits-of f s [] e = tt
 waits-of f s (x ∷ xs) e = let both = both-true (ltb 0 (waitingOf (s .held) f)) _ e in
     (λ _. ltb-true 0 _ (both .0), waits-of f (x .outcome .state) xs (both .1))
 
+-- demand 3 speaks of what document 01's rule makes of a worked run
+worked-holds : (w : Worked) {f W S cost width : ℕ} → Shows w (stretchOf w) f W S cost width
+    → 720 * picked (stretchOf w) ≤ boundOf w (stretchOf w) f 3
+worked-holds w {f} shows =
+    rule-share (shows .carried) f (shows .counts) (w .stretch) (shows .plain) (shows .waits)
+
 -- two flows of 500: flow 0 waits while it is picked once and flow 1 is picked once
 abbrev pub fair : Worked
 fair =
     record {
       shares = 500 ∷ 500 ∷ [];
       largest = 100 ∷ 100 ∷ [];
+      header = 0;
       before = arrival 0 100 7 ∷ arrival 0 100 8 ∷ arrival 1 100 9 ∷ [];
       stretch = replicate 2 pick;
     }
@@ -94,8 +110,7 @@ pub fair-shows : Shows fair (stretchOf fair) 0 200 100 1440 144000
 unfolding everyRule
 fair-shows =
     record {
-      carried = rule-carried (opened start (fair .shares) (fair .largest) refl) (fair .before)
-          (plain-of (fair .before) refl);
+      carried = begin-carried fair refl refl;
       plain = plain-of (fair .stretch) refl;
       counts = lit< tt;
       waits = waits-of 0 (beginOf fair) (stretchOf fair) refl;
@@ -107,8 +122,7 @@ fair-shows =
 
 -- and demand 3 speaks of it
 pub fair-holds : 720 * picked (stretchOf fair) ≤ boundOf fair (stretchOf fair) 0 3
-fair-holds =
-    rule-share (fair-shows .carried) 0 (fair-shows .counts) (fair .stretch) (fair-shows .plain) (fair-shows .waits)
+fair-holds = worked-holds fair fair-shows
 
 -- both front packets of `fair` have the tag 144,000
 tied-least : (g : ℕ) → g < 2 → tagOf (beginOf fair .held) 1 ≤ tagOf (beginOf fair .held) g
@@ -138,6 +152,7 @@ tight =
     record {
       shares = 1 ∷ 999 ∷ [];
       largest = 1 ∷ 998 ∷ [];
+      header = 0;
       before = arrival 0 1 1 ∷ arrival 0 1 2 ∷ arrival 0 1 3 ∷ arrival 0 1 4 ∷ pick ∷ pick
           ∷ arrival 1 998 5 ∷ arrival 1 998 6 ∷ arrival 1 998 7 ∷ arrival 1 998 8 ∷ arrival 1 998 9 ∷ [];
       stretch = replicate 5 pick;
@@ -148,8 +163,7 @@ pub tight-shows : Shows tight (stretchOf tight) 0 3993 1 720000 720000
 unfolding everyRule
 tight-shows =
     record {
-      carried = rule-carried (opened start (tight .shares) (tight .largest) refl) (tight .before)
-          (plain-of (tight .before) refl);
+      carried = begin-carried tight refl refl;
       plain = plain-of (tight .stretch) refl;
       counts = lit< tt;
       waits = waits-of 0 (beginOf tight) (stretchOf tight) refl;
@@ -163,16 +177,65 @@ tight-shows =
 pub two-too-few : boundOf tight (stretchOf tight) 0 2 < 720 * picked (stretchOf tight)
 two-too-few = rw (tight-shows .all, tight-shows .own, tight-shows .cost-is, tight-shows .width-is) (lit< tt)
 
+-- a header of 64, shares 50 and 950: flow 0 has sent two of its four packets of one byte when flow 1 comes with five
+-- of 1,000, and waits at five picks
+abbrev pub headed : Worked
+headed =
+    record {
+      shares = 50 ∷ 950 ∷ [];
+      largest = 1 ∷ 1000 ∷ [];
+      header = 64;
+      before = arrival 0 1 1 ∷ arrival 0 1 2 ∷ arrival 0 1 3 ∷ arrival 0 1 4 ∷ pick ∷ pick
+          ∷ arrival 1 1000 5 ∷ arrival 1 1000 6 ∷ arrival 1 1000 7 ∷ arrival 1 1000 8 ∷ arrival 1 1000 9 ∷ [];
+      stretch = replicate 5 pick;
+    }
+
+-- W is 4,321, four packets of 1,064 and one of 65, and S is 65
+pub headed-shows : Shows headed (stretchOf headed) 0 4321 65 14400 936000
+unfolding everyRule
+headed-shows =
+    record {
+      carried = begin-carried headed refl refl;
+      plain = plain-of (headed .stretch) refl;
+      counts = lit< tt;
+      waits = waits-of 0 (beginOf headed) (stretchOf headed) refl;
+      all = refl;
+      own = refl;
+      cost-is = refl;
+      width-is = refl;
+    }
+
+-- demand 3 speaks of it
+pub headed-holds : 720 * picked (stretchOf headed) ≤ boundOf headed (stretchOf headed) 0 3
+headed-holds = worked-holds headed headed-shows
+
+-- the packets' own bytes in the place of their charges
+abbrev pub bytesIn : Outcome → ℕ
+bytesIn o = valueIn 1 (o .reply)
+
+abbrev pub bytesFor : ℕ → Outcome → ℕ
+bytesFor f o = ofPacket (λ flow rest. cond (eqb flow f) (bytesIn o) 0) (o .reply)
+
+-- so counted, all is 4,001 and flow 0's is 1
+pub headed-bytes : (total bytesIn (stretchOf headed) ≡ 4001) × (total (bytesFor 0) (stretchOf headed) ≡ 1)
+unfolding everyRule
+headed-bytes = (refl, refl)
+
+-- and demand 3 would not hold
+pub bytes-break : total (bytesFor 0) (stretchOf headed) * flowCost (flowAt (beginOf headed .held) 0)
+    + 3 * beginOf headed .held .width < 720 * total bytesIn (stretchOf headed)
+bytes-break = rw (headed-bytes .0, headed-bytes .1, headed-shows .cost-is, headed-shows .width-is) (lit< tt)
+
 -- the stand-in: with true it has made a pick, and from then on a pick only reports
 abbrev pub lazyAfter : Bool → State → Call → Outcome
-lazyAfter made s (opening shares largest) = afterCall s (opening shares largest)
+lazyAfter made s (opening shares largest header) = afterCall s (opening shares largest header)
 lazyAfter made s (arrival flow length handle) = afterCall s (arrival flow length handle)
 lazyAfter false s pick = pickRule s
 lazyAfter true s pick = record { reply = pickRule s .reply; state = s }
 
 -- whether it has made a pick after this call
 abbrev pub lazyMade : Bool → Call → Bool
-lazyMade made (opening shares largest) = false
+lazyMade made (opening shares largest header) = false
 lazyMade made (arrival flow length handle) = made
 lazyMade made pick = true
 
@@ -185,7 +248,14 @@ lazyRun made s (call ∷ calls) =
 
 -- the table and the packets of `fair`, and nine picks: all but the first report the one packet of flow 1
 abbrev pub lazy : Worked
-lazy = record { shares = fair .shares; largest = fair .largest; before = fair .before; stretch = replicate 9 pick }
+lazy =
+    record {
+      shares = fair .shares;
+      largest = fair .largest;
+      header = fair .header;
+      before = fair .before;
+      stretch = replicate 9 pick;
+    }
 
 abbrev pub lazyStretch : List Event
 lazyStretch = lazyRun false (beginOf lazy) (lazy .stretch)

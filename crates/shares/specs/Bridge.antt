@@ -12,6 +12,7 @@ use borrow.Author.Tests.{eq-eqb, ne-eqb}
 use Rattle.below.specs.Below.{mostBelow-least}
 use Rattle.cost.specs.Cost.{costOf, cost-covers}
 use Rattle.cost.specs.Charge.{chargeOf, chargeTicks}
+use Rattle.queues.specs.Queue.{bookedTicks}
 use Rattle.queues.specs.Queues.{sharesOf, widthOf}
 use Rattle.queues.specs.Form.{queueFormed}
 use Rattle.queues.specs.Laws.{ranged-out, queue-at}
@@ -21,7 +22,7 @@ use Rattle.uplink.specs.Flow.{Flow, flowCost}
 use Rattle.uplink.specs.Record.{flowAt, Rows}
 use Rattle.uplink.specs.State.{State}
 use Rattle.uplink.specs.Formed.{Formed}
-use Rattle.uplink.specs.Pick.{frontLength}
+use Rattle.uplink.specs.Pick.{frontCharge}
 use Rattle.shares.specs.Keep.{Table, Sound, View, Good, in-time}
 
 -- a table: the costs are those of the shares
@@ -39,12 +40,12 @@ abbrev pub tableOf : State → Table
 tableOf s = tableWith (s .held .flows) (s .held .width) (λ f. flowOf s f .queue .share)
 
 -- the charge of flow f's front packet, and 0 where nothing waits
-unfoldable pub frontCharge : State → ℕ → ℕ
-frontCharge s f = cond (eqb (flowOf s f .queue .waiting) 0) 0 (chargeOf (frontLength s f))
+unfoldable pub waitingCharge : State → ℕ → ℕ
+waitingCharge s f = cond (eqb (flowOf s f .queue .waiting) 0) 0 (frontCharge s f)
 
--- each flow's tag and front charge
+-- each flow's tag and the charge that waits in front
 abbrev pub viewOf : State → View
-viewOf s = record { tag = λ f. flowOf s f .tag .0; charge = frontCharge s }
+viewOf s = record { tag = λ f. flowOf s f .tag .0; charge = waitingCharge s }
 
 -- the tag of each flow with nothing waiting is the one told
 abbrev pub IdleTags : State → (ℕ → ℕ) → Type 0
@@ -68,16 +69,16 @@ pub record Steady (s : State) : Type 0 where
   pub good : Good (tableOf s) (clockOf s) (viewOf s)
 
 -- a flow that does not wait has no charge, one that waits its front packet's
-pub charge-idle : (s : State) (f : ℕ) → flowOf s f .queue .waiting ≡ 0 → frontCharge s f ≡ 0
-unfolding frontCharge
+pub charge-idle : (s : State) (f : ℕ) → flowOf s f .queue .waiting ≡ 0 → waitingCharge s f ≡ 0
+unfolding waitingCharge
 charge-idle s f e = rw (eq-eqb _ 0 e)
 
-pub charge-waits : (s : State) (f : ℕ) → 0 < flowOf s f .queue .waiting → frontCharge s f ≡ chargeOf (frontLength s f)
-unfolding frontCharge
+pub charge-waits : (s : State) (f : ℕ) → 0 < flowOf s f .queue .waiting → waitingCharge s f ≡ frontCharge s f
+unfolding waitingCharge
 charge-waits s f h = rw (ne-eqb (flowOf s f .queue .waiting) 0 (λ e. omega arith))
 
 -- a flow with a charge waits
-pub waits-charge : (s : State) (f : ℕ) → 0 < frontCharge s f → 0 < flowOf s f .queue .waiting
+pub waits-charge : (s : State) (f : ℕ) → 0 < waitingCharge s f → 0 < flowOf s f .queue .waiting
 waits-charge s f h = elim (ℕ-discrete (flowOf s f .queue .waiting) 0) as (λ _. 0 < flowOf s f .queue .waiting) [
   | yes q ↦ absurd (omega (arith, charge-idle s f q))
   | no q ↦ omega arith
@@ -85,7 +86,7 @@ waits-charge s f h = elim (ℕ-discrete (flowOf s f .queue .waiting) 0) as (λ _
 
 -- and one that waits has a charge
 pub charge-some : (s : State) (f : ℕ) → queueFormed f (s .lengths) (flowOf s f .queue) ≡ true
-    → 0 < flowOf s f .queue .waiting → 0 < frontCharge s f
+    → 0 < flowOf s f .queue .waiting → 0 < waitingCharge s f
 charge-some s f queue w = omega (arith, charge-waits s f w, queue-at f (s .lengths) (flowOf s f .queue) queue 0 w)
 
 module _ (s : State) (F : Formed (s .held) (s .lengths)) where
@@ -101,14 +102,15 @@ module _ (s : State) (F : Formed (s .held) (s .lengths)) where
 
   -- no packet that a flow may send is charged more than Δ
   pub packet-fits : (f n : ℕ) → f < s .held .flows → n ≤ flowOf s f .queue .largest
-      → chargeTicks (flowCost (flowOf s f)) n ≤ s .held .width
+      → chargeTicks (flowCost (flowOf s f)) (chargeOf (s .held .header) n) ≤ s .held .width
   unfolding widthOf
   packet-fits f n l h =
       omega (
         arith,
         F .width,
         mul-le-mul-right (flowCost (flowOf s f)) h,
-        mostBelow-least (λ j. chargeTicks (flowCost (flowOf s j)) (flowOf s j .queue .largest)) (s .held .flows) f l,
+        mostBelow-least (λ j. bookedTicks (s .held .header) (flowOf s j .queue .share) (flowOf s j .queue .largest))
+            (s .held .flows) f l,
       )
 
 -- the backlog and the bounds keep the tags in form

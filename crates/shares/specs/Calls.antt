@@ -87,7 +87,7 @@ module _ (s : State) (S : Steady s) where
 
   -- what holds whichever way it goes holds of a call that is no opening
   call-ways : (call : Call) (o : Outcome) → Plain call → Gives s call o → (P : Outcome → Type 0) → Ways s call P → P o
-  call-ways (opening shares largest) o plain gives P ways = absurd plain
+  call-ways (opening shares largest header) o plain gives P ways = absurd plain
   call-ways (arrival f n handle) o plain gives P ways = rw (gives, checked-on) (join-ways P f n handle
       (λ number late. ways .refuses number (record { late = late; ten = λ e. arrival-pick e }))
       (ways .stores f n handle))
@@ -97,13 +97,13 @@ module _ (s : State) (S : Steady s) where
 -- the clock goes on by what was picked, and the flow's start by what was picked of it
 pub record Counts (f cost : ℕ) (s : State) (o : Outcome) : Type 0 where
   pub ahead : clockOf (o .state) ≤ viewOf (o .state) .tag f
-  pub clock : clockOf s + 720 * chargeIn (o .reply) ≤ clockOf (o .state)
-  pub start : MovesOn f cost (chargeFor f (o .reply)) (viewOf s) (viewOf (o .state))
+  pub clock : clockOf s + 720 * chargeIn o ≤ clockOf (o .state)
+  pub start : MovesOn f cost (chargeFor f o) (viewOf s) (viewOf (o .state))
 
 -- what a reply has to do with the clocks: both go on by what was picked, and the server clock by Δ where it leapt
 pub record Clocks (s : State) (o : Outcome) : Type 0 where
-  pub link : o .state .held .link .0 ≡ s .held .link .0 + 720 * chargeIn (o .reply)
-  pub clock : clockOf (o .state) ≡ clockOf s + 720 * chargeIn (o .reply) + s .held .width * valueIn 4 (o .reply)
+  pub link : o .state .held .link .0 ≡ s .held .link .0 + 720 * chargeIn o
+  pub clock : clockOf (o .state) ≡ clockOf s + 720 * chargeIn o + s .held .width * valueIn 4 (o .reply)
   pub width : o .state .held .width ≡ s .held .width
 
 -- a leap adds Δ once
@@ -142,10 +142,10 @@ module _ (s : State) (S : Steady s) (call : Call) (o : Outcome) (plain : Plain c
       }
 
   -- only a pick's reply says that something was picked
-  pub call-silent : (call ≡ pick → ⊥) → (f : ℕ) → (chargeIn (o .reply) ≡ 0) × (chargeFor f (o .reply) ≡ 0)
+  pub call-silent : (call ≡ pick → ⊥) → (f : ℕ) → (chargeIn o ≡ 0) × (chargeFor f o ≡ 0)
   unfolding storeRule
   call-silent other f =
-      call-ways s S call o plain gives (λ o. (chargeIn (o .reply) ≡ 0) × (chargeFor f (o .reply) ≡ 0))
+      call-ways s S call o plain gives (λ o. (chargeIn o ≡ 0) × (chargeFor f o ≡ 0))
       record {
         refuses = λ number _. (refl, refl);
         stores = λ g n handle joins. (refl, refl);
@@ -227,6 +227,6 @@ module _ (s : State) (S : Steady s) (call : Call) (o : Outcome) (plain : Plain c
 
 -- no call on a steady state is refused with 1 or 2
 pub any-late : (s : State) → Steady s → (call : Call) (o : Outcome) → Gives s call o → Late (o .reply)
-any-late s S (opening shares largest) o gives = rw gives (opening-late s shares largest (lent-true s S))
+any-late s S (opening shares largest header) o gives = rw gives (opening-late s shares largest header (lent-true s S))
 any-late s S (arrival f n handle) o gives = call-late s S (arrival f n handle) o tt gives
 any-late s S pick o gives = call-late s S pick o tt gives

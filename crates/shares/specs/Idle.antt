@@ -51,6 +51,7 @@ module _ (s : State) (S : Steady s) where
         record {
           some = S .form .some;
           few = S .form .few;
+          header = S .form .header;
           shares = S .form .shares;
           width = S .form .width;
           each = idle-each;

@@ -1,5 +1,6 @@
 -- Demand 3, the shares. An auditor reads `Runs` (what a run is), `Shares` (what is proved of every run) and `Bites`.
--- `Rule`: the same for document 01's own pick. `Bites`: worked runs, the 3 that cannot be 2, a stand-in that breaks it.
+-- `Rule`: the same for document 01's own pick. `Bites`: worked runs, the 3 that cannot be 2, the charges that cannot be
+-- own bytes, a stand-in that breaks it.
 -- The argument, from numbers to runs. `Sum`: sums over the flows. `Own`: one flow's part of the backlog.
 -- `Keep`: the backlog and the tag bounds, kept by front, leap, serve and reset. `Start`: where a flow stands in its own
 -- time. `Bridge`: from the record to these. `Put`: one flow put anew. `Store`, `Serve`, `Idle`, `Opened`: an arrival,

@@ -26,23 +26,24 @@ use Rattle.shares.specs.Runs.{openingIn}
 use Rattle.shares.specs.Keep.{reset-good}
 use Rattle.shares.specs.Bridge.{Steady, Zeroed, tableOf, charge-idle}
 
-module _ (shares largest : List ℕ) where
+module _ (shares largest : List ℕ) (header : ℕ) where
   -- the record and the state that an accepted opening gives
   abbrev new : Record
-  new = newRecord shares largest
+  new = newRecord shares largest header
 
   abbrev opened : State
   opened = state new (replicate 4096 0) (replicate 4096 0)
 
   -- an accepted opening was handed what can be opened, and gives that state
-  accepted-out : (lengths handles : List ℕ) → openingRule shares largest lengths handles .reply ≡ done []
-      → Openable shares largest lengths handles × (openingRule shares largest lengths handles .state ≡ opened)
+  accepted-out : (lengths handles : List ℕ) → openingRule shares largest header lengths handles .reply ≡ done []
+      → Openable shares largest header lengths handles
+      × (openingRule shares largest header lengths handles .state ≡ opened)
   unfolding openingRule
   accepted-out lengths handles e =
-      let reply = listsReply shares largest lengths handles in
-      let all : reply ≡ done [] = sym (opened-reply reply shares largest lengths handles) ∙ e in (
-        openable shares largest lengths handles all,
-        ap (λ given. openedBy given shares largest lengths handles .state) all,
+      let reply = listsReply shares largest header lengths handles in
+      let all : reply ≡ done [] = sym (opened-reply reply shares largest header lengths handles) ∙ e in (
+        openable shares largest header lengths handles all,
+        ap (λ given. openedBy given shares largest header lengths handles .state) all,
       )
 
   -- flow f as it opens
@@ -58,7 +59,7 @@ module _ (shares largest : List ℕ) where
   opened-waiting : (f : ℕ) → f < 64 → waitingOf new f ≡ 0
   opened-waiting f l = ap (λ x. x .queue .waiting) (opened-flow f l)
 
-  module _ (lengths handles : List ℕ) (o : Openable shares largest lengths handles) where
+  module _ (lengths handles : List ℕ) (o : Openable shares largest header lengths handles) where
     -- every flow of the table is in form
     opened-each : (f : ℕ) → f < length shares → FlowFormed new (replicate 4096 0) f
     unfolding newRecord
@@ -94,6 +95,7 @@ module _ (shares largest : List ℕ) where
         record {
           some = o .some;
           few = o .few;
+          header = o .short;
           shares = o .sum;
           width = refl;
           each = opened-each;
@@ -116,16 +118,17 @@ module _ (shares largest : List ℕ) where
               (λ f l. charge-idle opened f (opened-waiting f (omega (arith, o .few))));
         }
 
-module _ (s : State) (shares largest : List ℕ) (accepted : openingIn s shares largest .reply ≡ done []) where
+module _ (s : State) (shares largest : List ℕ) (header : ℕ)
+    (accepted : openingIn s shares largest header .reply ≡ done []) where
   -- an accepted opening gives a steady state
-  pub accepted-steady : Steady (openingIn s shares largest .state)
-  accepted-steady = let A = accepted-out shares largest (s .lengths) (s .handles) accepted in
-      rw (A .1) (opened-steady shares largest _ _ (A .0))
+  pub accepted-steady : Steady (openingIn s shares largest header .state)
+  accepted-steady = let A = accepted-out shares largest header (s .lengths) (s .handles) accepted in
+      rw (A .1) (opened-steady shares largest header _ _ (A .0))
 
   -- with clock, link time and all tags 0
-  pub accepted-zeroed : Zeroed (openingIn s shares largest .state)
+  pub accepted-zeroed : Zeroed (openingIn s shares largest header .state)
   unfolding newRecord
-  accepted-zeroed = rw (accepted-out shares largest (s .lengths) (s .handles) accepted .1)
+  accepted-zeroed = rw (accepted-out shares largest header (s .lengths) (s .handles) accepted .1)
       record { clock = refl; link = refl; tags = zeros-at 64 }
 
 -- a reply that is no refusal with 1 or 2
@@ -161,9 +164,10 @@ table-late shares largest =
     go (done values) late b = late-on b (done []) 6 0 (omega arith) (omega arith)
 
 -- so an opening that is lent memories of 4,096 places is not refused with 1 or 2
-pub opening-late : (s : State) (shares largest : List ℕ) → lent (s .lengths) (s .handles) ≡ true
-    → Late (openingIn s shares largest .reply)
+pub opening-late : (s : State) (shares largest : List ℕ) (header : ℕ) → lent (s .lengths) (s .handles) ≡ true
+    → Late (openingIn s shares largest header .reply)
 unfolding openingRule listsReply
-opening-late s shares largest e =
-    rw (opened-reply (listsReply shares largest (s .lengths) (s .handles)) shares largest (s .lengths) (s .handles), e)
-    (late-on (paired shares largest) (tableReply shares largest) 3 0 (omega arith) (table-late shares largest))
+opening-late s shares largest header e =
+    let reply = listsReply shares largest header (s .lengths) (s .handles) in
+    rw (opened-reply reply shares largest header (s .lengths) (s .handles), e)
+    (late-on (paired shares largest header) (tableReply shares largest) 3 0 (omega arith) (table-late shares largest))

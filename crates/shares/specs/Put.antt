@@ -23,8 +23,8 @@ use Rattle.uplink.specs.State.{State, state}
 use Rattle.uplink.specs.Form.{clockEnd}
 use Rattle.uplink.specs.Formed.{Formed}
 use Rattle.uplink.specs.declared.Record.{Record}
-use Rattle.shares.specs.Bridge.{flowOf, tableWith, tableOf, frontCharge, viewOf, Steady, charge-idle, table-sound}
-use Rattle.shares.specs.Bridge.{tags-formed}
+use Rattle.shares.specs.Bridge.{flowOf, tableWith, tableOf, waitingCharge, viewOf, Steady, charge-idle}
+use Rattle.shares.specs.Bridge.{table-sound, tags-formed}
 use Rattle.shares.specs.Keep.{Good, Change}
 
 -- flow `index` becomes `flow`, its packet of number `number` gets a length and a handle, and the clocks are set
@@ -66,16 +66,26 @@ module _ (s : State) (p : Put) where
   abbrev w : Flow
   w = p .flow
 
+  -- the header stays
+  put-header : next .held .header ≡ s .held .header
+  unfolding put
+  put-header = refl
+
   -- the packets of other flows stay
   place-else : (j first i : ℕ) → j ≢ f → lengthIn (next .lengths) j first i ≡ lengthIn (s .lengths) j first i
   place-else j first i q = getD-set-other (s .lengths) _ _ (p .bytes) 0
       (place-other j f first (flowOf s f .queue .first) i (p .number) q)
 
   -- and so do the charges of their front packets
-  charge-else : (j : ℕ) → j ≢ f → frontCharge next j ≡ frontCharge s j
-  unfolding frontCharge
+  charge-else : (j : ℕ) → j ≢ f → waitingCharge next j ≡ waitingCharge s j
+  unfolding waitingCharge
   charge-else j q = let same = put-else r f j w q in
-      rw (ap (λ x. x .queue .waiting) same, ap (λ x. x .queue .first) same, place-else j (flowOf s j .queue .first) 0 q)
+      rw (
+        ap (λ x. x .queue .waiting) same,
+        ap (λ x. x .queue .first) same,
+        place-else j (flowOf s j .queue .first) 0 q,
+        put-header,
+      )
 
   module _ (S : Steady s) (l : f < s .held .flows) where
     -- the record has its 64 rows
@@ -96,16 +106,16 @@ module _ (s : State) (p : Put) where
 
     -- the charge of its new front packet
     pub put-charge : 0 < w .queue .waiting
-        → frontCharge next f ≡ chargeOf (lengthIn (next .lengths) f (w .queue .first) 0)
-    unfolding frontCharge
-    put-charge e = cc (put-at, ne-eqb (w .queue .waiting) 0 (λ z. omega arith))
+        → waitingCharge next f ≡ chargeOf (s .held .header) (lengthIn (next .lengths) f (w .queue .first) 0)
+    unfolding waitingCharge
+    put-charge e = cc (put-at, put-header, ne-eqb (w .queue .waiting) 0 (λ z. omega arith))
 
     -- or that it is idle
-    pub put-idle : w .queue .waiting ≡ 0 → frontCharge next f ≡ 0
+    pub put-idle : w .queue .waiting ≡ 0 → waitingCharge next f ≡ 0
     put-idle e = charge-idle next f (cc put-at)
 
     -- only flow f changes
-    pub put-change : {T m : ℕ} → w .tag .0 ≡ T → frontCharge next f ≡ m → Change f T m (viewOf s) (viewOf next)
+    pub put-change : {T m : ℕ} → w .tag .0 ≡ T → waitingCharge next f ≡ m → Change f T m (viewOf s) (viewOf next)
     put-change tag charge =
         record {
           tag-at = cc put-at;
@@ -144,6 +154,7 @@ module _ (s : State) (p : Put) where
               record {
                 some = S .form .some;
                 few = S .form .few;
+                header = S .form .header;
                 shares = rw (sumBelow-same _ _ (s .held .flows) λ j _. put-share j) (S .form .shares);
                 width = mostBelow-same _ _ (s .held .flows) (λ j _. rw (put-share j, put-largest j)) ∙ S .form .width;
                 each = λ j b.

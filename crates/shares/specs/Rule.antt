@@ -27,7 +27,7 @@ rule-taken s =
 
 -- and what a call gives by document 01 is one of those that it may give
 pub rule-gives : (s : State) (call : Call) → Gives s call (afterCall s call)
-rule-gives s (opening shares largest) = refl
+rule-gives s (opening shares largest header) = refl
 rule-gives s (arrival flow length handle) = refl
 rule-gives s pick = rule-taken s
 

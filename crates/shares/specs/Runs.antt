@@ -1,6 +1,7 @@
 -- What a run is, and what is read off it. A call is an opening, an arrival or a pick with any arguments;
 -- record and both memories go on unaltered from one call to the next, refused calls and Idle picks included.
 -- A pick may take any flow of smallest tag: document 01's pick is one of these (`Rule`).
+-- "W and S of demand 3 count charges" (document 02 a): what a pick is charged is read off its outcome.
 -- Assumes nothing.
 use mathlib.Core.Path.{_≡_}
 use mathlib.Core.Bool.{Bool, true, cond}
@@ -36,13 +37,13 @@ pub record Taken (s : State) (o : Outcome) : Type 0 where
 
 -- what a call may give, whatever the tie rule
 abbrev pub Gives : State → Call → Outcome → Type 0
-Gives s (opening shares largest) o = o ≡ openingRule shares largest (s .lengths) (s .handles)
+Gives s (opening shares largest header) o = o ≡ openingRule shares largest header (s .lengths) (s .handles)
 Gives s (arrival flow length handle) o = o ≡ arrivalRule s flow length handle
 Gives s pick o = Taken s o
 
 -- a call that is no opening
 abbrev pub Plain : Call → Type 0
-Plain (opening shares largest) = ⊥
+Plain (opening shares largest header) = ⊥
 Plain (arrival flow length handle) = Unit {0}
 Plain pick = Unit {0}
 
@@ -72,58 +73,59 @@ runOf s [] = []
 runOf s (call ∷ calls) = record { call = call; outcome = afterCall s call } ∷ runOf (afterCall s call .state) calls
 
 -- an opening in state s, whatever came before: of the state it takes the memories alone
-abbrev pub openingIn : State → List ℕ → List ℕ → Outcome
-openingIn s shares largest = afterCall s (opening shares largest)
+abbrev pub openingIn : State → List ℕ → List ℕ → ℕ → Outcome
+openingIn s shares largest header = afterCall s (opening shares largest header)
 
 -- the states of a run from an accepted opening on, with no new opening
 pub data Carried : State → Type 0 where
-  opened : (s : State) (shares largest : List ℕ) → openingIn s shares largest .reply ≡ done []
-      → Carried (openingIn s shares largest .state)
+  opened : (s : State) (shares largest : List ℕ) (header : ℕ) → openingIn s shares largest header .reply ≡ done []
+      → Carried (openingIn s shares largest header .state)
   next : (s : State) (x : Event) → Carried s → Plain (x .call) → Gives s (x .call) (x .outcome)
       → Carried (x .outcome .state)
 
 -- the states in which the clocks start: after an accepted opening, and after an Idle
 pub data Restarted : State → Type 0 where
-  opened : (s : State) (shares largest : List ℕ) → openingIn s shares largest .reply ≡ done []
-      → Restarted (openingIn s shares largest .state)
+  opened : (s : State) (shares largest : List ℕ) (header : ℕ) → openingIn s shares largest header .reply ≡ done []
+      → Restarted (openingIn s shares largest header .state)
   idled : (s : State) (o : Outcome) → Carried s → Taken s o → o .reply ≡ idle → Restarted (o .state)
 
--- what a reply says was picked: its charge
-abbrev pub chargeIn : Reply → ℕ
-chargeIn idle = 0
-chargeIn (refused number flow) = 0
-chargeIn (done []) = 0
-chargeIn (done (flow ∷ rest)) = chargeOf (getD rest 0 0)
+-- a figure of the packet that a reply tells, by its flow and the values behind that; 0 where no packet is told
+abbrev pub ofPacket : (ℕ → List ℕ → ℕ) → Reply → ℕ
+ofPacket figure idle = 0
+ofPacket figure (refused number flow) = 0
+ofPacket figure (done []) = 0
+ofPacket figure (done (flow ∷ rest)) = figure flow rest
+
+-- the charge of what was picked: the length that the reply tells, plus the header that the record keeps
+abbrev pub chargeIn : Outcome → ℕ
+chargeIn o = ofPacket (λ flow rest. chargeOf (o .state .held .header) (getD rest 0 0)) (o .reply)
 
 -- and its charge where it is of flow f
-abbrev pub chargeFor : ℕ → Reply → ℕ
-chargeFor f idle = 0
-chargeFor f (refused number flow) = 0
-chargeFor f (done []) = 0
-chargeFor f (done (flow ∷ rest)) = cond (eqb flow f) (chargeOf (getD rest 0 0)) 0
+abbrev pub chargeFor : ℕ → Outcome → ℕ
+chargeFor f o = ofPacket (λ flow rest. cond (eqb flow f) (chargeIn o) 0) (o .reply)
 
--- the k-th value of a reply that is done: of a pick's, 3 is the tag, 4 is 1 where the clock leapt, and 5 is the clock
+-- the k-th value of a reply that is done: of a pick's, 1 is the length, 3 the tag, 4 is 1 where it leapt, 5 the clock
 abbrev pub valueIn : ℕ → Reply → ℕ
 valueIn k idle = 0
 valueIn k (refused number flow) = 0
 valueIn k (done values) = getD values k 0
 
--- a figure added up over the replies
-abbrev pub total : (Reply → ℕ) → List Event → ℕ
+-- a figure added up over the outcomes
+abbrev pub total : (Outcome → ℕ) → List Event → ℕ
 total figure [] = 0
-total figure (x ∷ xs) = figure (x .outcome .reply) + total figure xs
+total figure (x ∷ xs) = figure (x .outcome) + total figure xs
 
--- W: the bytes picked
+-- W: the charges of all packets picked
 abbrev pub picked : List Event → ℕ
 picked = total chargeIn
 
--- S: the bytes picked of flow f
+-- S: the charges of the packets picked of flow f
 abbrev pub pickedOf : ℕ → List Event → ℕ
 pickedOf f = total (chargeFor f)
 
 -- the number of leaps
 abbrev pub leapsOf : List Event → ℕ
-leapsOf = total (valueIn 4)
+leapsOf = total (λ o. valueIn 4 (o .reply))
 
 -- the tag of flow f's last packet picked: the one that a reply tells, where it is of flow f, and else the one before
 abbrev pub tagAfter : ℕ → ℕ → Reply → ℕ

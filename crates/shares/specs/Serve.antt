@@ -9,7 +9,7 @@ use native.Mathlib.Omega.{arith}
 use lib.Dec.{eqb}
 use lib.Seq.{getD-set-other}
 use borrow.Author.Tests.{eq-eqb, ne-eqb, lt-ltb, le-ltb, ltb-true}
-use Rattle.cost.specs.Charge.{chargeOf, chargeTicks, linkTicks}
+use Rattle.cost.specs.Charge.{chargeTicks, linkTicks}
 use Rattle.queues.specs.Queue.{placeOf}
 use Rattle.queues.specs.Form.{ranged, queueFormed}
 use Rattle.queues.specs.Laws.{Ranged, ranged-out, ranged-in, queue-at, queue-in, place-apart}
@@ -21,7 +21,7 @@ use Rattle.uplink.specs.Record.{tagOf, waitingOf}
 use Rattle.uplink.specs.State.{State}
 use Rattle.uplink.specs.Form.{clockEnd}
 use Rattle.uplink.specs.Formed.{FlowFormed, width-most}
-use Rattle.uplink.specs.Pick.{clockLimit, frontLength, behindLength, clockLeapt, clockAfter, linkOn}
+use Rattle.uplink.specs.Pick.{clockLimit, behindLength, frontCharge, behindCharge, clockLeapt, clockAfter, linkOn}
 use Rattle.shares.specs.Keep.{Sound, View, Good, Change, unchanged, change-again, front-good, leap-good, in-time}
 use Rattle.shares.specs.Keep.{serve-good}
 use Rattle.shares.specs.Bridge.{flowOf, clockOf, tableOf, viewOf, Steady, charge-waits, waits-charge, charge-some}
@@ -36,7 +36,7 @@ module _ (s : State) (f : ℕ) where
   old = flowOf s f
 
   abbrev new : Flow
-  new = servedFlow old (ticks (clockAfter s f)) (flowCost old) (behindLength s f)
+  new = servedFlow old (ticks (clockAfter s f)) (flowCost old) (behindCharge s f)
 
   abbrev served : Put
   served =
@@ -88,7 +88,7 @@ module _ (s : State) (f : ℕ) where
         (queue-at f (s .lengths) (old .queue) (form .queue) (k + 1) (omega arith))
 
     -- the front packet's charge
-    front-charge : viewOf s .charge f ≡ chargeOf (frontLength s f)
+    front-charge : viewOf s .charge f ≡ frontCharge s f
     front-charge = charge-waits s f (small .waits)
 
     -- no flow that waits has a smaller tag
@@ -137,8 +137,8 @@ module _ (s : State) (f : ℕ) where
 
     -- front: the packet behind comes to the front, where there is one
     serve-front : 1 < old .queue .waiting
-        → Change f (frontTag (old .tag .0) (clockAfter s f) (flowCost old) (behindLength s f))
-        (chargeOf (behindLength s f)) middle (viewOf after)
+        → Change f (frontTag (old .tag .0) (clockAfter s f) (flowCost old) (behindCharge s f))
+        (behindCharge s f) middle (viewOf after)
     unfolding servedFlow
     serve-front h = change-again middle-change (put-change s served S (small .counts)
         (rw (lt-ltb 1 (old .queue .waiting) h))
@@ -152,7 +152,7 @@ module _ (s : State) (f : ℕ) where
         (put-idle s served S (small .counts) (omega arith) ∙ sym (middle-change .charge-at))))
 
     -- the packet behind is charged no more than Δ
-    behind-fits : 1 < old .queue .waiting → chargeTicks (flowCost old) (behindLength s f) ≤ s .held .width
+    behind-fits : 1 < old .queue .waiting → chargeTicks (flowCost old) (behindCharge s f) ≤ s .held .width
     behind-fits h = packet-fits s (S .form) f (behindLength s f) (small .counts)
         (queue-at f (s .lengths) (old .queue) (form .queue) 1 h .1)
 
@@ -160,7 +160,7 @@ module _ (s : State) (f : ℕ) where
     served-good : Good (tableOf s) (clockAfter s f) (viewOf after)
     served-good = elim (decLe (old .queue .waiting) 1) as (λ _. Good (tableOf s) (clockAfter s f) (viewOf after)) [
       | yes p ↦ rw (serve-last p) middle-good
-      | no p ↦ front-good sound (clockAfter s f) f (chargeOf (behindLength s f)) (small .counts) middle-good
+      | no p ↦ front-good sound (clockAfter s f) f (behindCharge s f) (small .counts) middle-good
           (middle-change .charge-at) (behind-fits (omega arith)) (serve-front (omega arith))
     ]
 
@@ -170,6 +170,7 @@ module _ (s : State) (f : ℕ) where
       arith,
       leap-high (clockOf s) (s .held .width) (old .tag .0),
       range .largest-high,
+      S .form .header,
       width-most (s .held) (s .lengths) (S .form),
       queue-at f (s .lengths) (old .queue) (form .queue) 0 (small .waits),
     )
@@ -194,7 +195,7 @@ module _ (s : State) (f : ℕ) where
         λ j q. rw (ne-eqb f j λ e. q (sym e)) (before j)
 
     -- the clock goes on by the packet's link ticks at the least
-    pub serve-clock-on : clockOf s + linkTicks (frontLength s f) ≤ clockAfter s f
+    pub serve-clock-on : clockOf s + linkTicks (frontCharge s f) ≤ clockAfter s f
     serve-clock-on = omega (arith, leap-low (clockOf s) (s .held .width) (old .tag .0))
 
     -- after the serve no flow that waited is behind the clock, and the next front moves no start
@@ -203,7 +204,7 @@ module _ (s : State) (f : ℕ) where
     front-stays g l w = elim (decLe (old .queue .waiting) 1)
         as (λ _. StaysAhead (clockAfter s f) g (flowCost (flowOf s g)) middle (viewOf after)) [
           | yes p ↦ same-start (flowCost (flowOf s g)) (clockAfter s f) g (serve-last p) still
-          | no p ↦ front-start (tableOf s .cost) (clockAfter s f) f (chargeOf (behindLength s f))
+          | no p ↦ front-start (tableOf s .cost) (clockAfter s f) f (behindCharge s f)
               (middle-change .charge-at) (serve-front (omega arith)) g still
         ]
       where
@@ -213,10 +214,10 @@ module _ (s : State) (f : ℕ) where
     -- so the start of such a flow moves on by its own packet's charge alone
     pub serve-moves : (g : ℕ) → g < s .held .flows → 0 < flowOf s g .queue .waiting
         → (clockAfter s f ≤ viewOf after .tag g)
-        × MovesOn g (flowCost (flowOf s g)) (cond (eqb f g) (chargeOf (frontLength s f)) 0) (viewOf s) (viewOf after)
+        × MovesOn g (flowCost (flowOf s g)) (cond (eqb f g) (frontCharge s f) 0) (viewOf s) (viewOf after)
     serve-moves g l w =
         let stays = front-stays g l w in (
           stays .0,
-          moves-then g _ (cond (eqb f g) (chargeOf (frontLength s f)) 0) (viewOf s) middle (viewOf after)
+          moves-then g _ (cond (eqb f g) (frontCharge s f) 0) (viewOf s) middle (viewOf after)
               (rw front-charge at (serve-start (tableOf s .cost) f middle-change g)) (stays .1),
         )

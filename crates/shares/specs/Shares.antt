@@ -1,6 +1,6 @@
 -- Demand 3, the shares, and what stands with it: for every run from an accepted opening (`Carried`), whichever flow of
 -- smallest tag a pick takes (`Gives`). `Rule` says the same of document 01's own pick. All words are those of `Runs`:
--- W is `picked`, S is `pickedOf f`, Δ is `width`.
+-- W is `picked`, S is `pickedOf f`, Δ is `width`. W and S count charges, each packet's length plus the header (02 a).
 -- Assumes nothing.
 use mathlib.Core.Path.{_≡_, refl, ap}
 use mathlib.Core.Bool.{true}
@@ -44,7 +44,7 @@ pub share : {s : State} → Carried s → (f : ℕ) → f < s .held .flows
 share {s} c f l stretch = share-stretch (tableOf s) f l s stretch (carried-steady c) refl
 
 -- The clocks, since the opening or the last Idle:
--- clock = link time + Δ × number of leaps, and link time = 720 × bytes picked.
+-- clock = link time + Δ × number of leaps, and link time = 720 × the charges picked.
 pub clocks : {s : State} → Restarted s → (stretch : List Event) → Stretch s stretch → NeverIdle stretch
     → let r = endOf s stretch .held in
     (r .clock .0 ≡ r .link .0 + s .held .width * leapsOf stretch) × (r .link .0 ≡ 720 * picked stretch)

@@ -25,7 +25,10 @@ abbrev pub Joins : State → ℕ → ℕ → Type 0
 Joins s f n = Joinable (s .held .flows) f n (flowOf s f .queue .largest) (flowOf s f .queue .waiting)
 
 module _ (s : State) (f n handle : ℕ) where
-  -- flow f before and after, the clock, and the state after
+  -- the packet's charge, flow f before and after, the clock, and the state after
+  abbrev charge : ℕ
+  charge = chargeOf (s .held .header) n
+
   abbrev old : Flow
   old = flowOf s f
 
@@ -33,7 +36,7 @@ module _ (s : State) (f n handle : ℕ) where
   clock = clockOf s
 
   abbrev new : Flow
-  new = joinedFlow old (s .held .clock) (flowCost old) n
+  new = joinedFlow old (s .held .clock) (flowCost old) charge
 
   abbrev stored : Put
   stored =
@@ -86,23 +89,23 @@ module _ (s : State) (f n handle : ℕ) where
 
     -- front: at an empty flow the packet comes to the front
     store-front : old .queue .waiting ≡ 0
-        → Change f (frontTag (old .tag .0) clock (flowCost old) n) (chargeOf n) (viewOf s) (viewOf after)
+        → Change f (frontTag (old .tag .0) clock (flowCost old) charge) charge (viewOf s) (viewOf after)
     unfolding joinedFlow
     store-front e = put-change s stored S inside
         (rw (eq-eqb (old .queue .waiting) 0 e))
-        (put-charge s stored S inside (omega arith) ∙ stored-last 0 (sym e))
+        (put-charge s stored S inside (omega arith) ∙ rw (stored-last 0 (sym e)))
 
     -- behind others nothing moves
     store-behind : 0 < old .queue .waiting → viewOf after ≡ viewOf s
     unfolding joinedFlow
     store-behind e = unchanged (put-change s stored S inside
         (rw (ne-eqb (old .queue .waiting) 0 (λ z. omega arith)))
-        (put-charge s stored S inside (omega arith) ∙ stored-else 0 e ∙ sym (charge-waits s f e)))
+        (put-charge s stored S inside (omega arith) ∙ rw (stored-else 0 e) (sym (charge-waits s f e))))
 
     -- the backlog and the bounds are kept
     store-good : Good (tableOf s) clock (viewOf after)
     store-good = elim (ℕ-discrete (old .queue .waiting) 0) as (λ _. Good (tableOf s) clock (viewOf after)) [
-      | yes q ↦ front-good (table-sound s (S .form)) clock f (chargeOf n) inside (S .good) (charge-idle s f q)
+      | yes q ↦ front-good (table-sound s (S .form)) clock f charge inside (S .good) (charge-idle s f q)
           (packet-fits s (S .form) f n inside (J .short)) (store-front q)
       | no q ↦ rw (store-behind (omega arith)) (S .good)
     ]
@@ -129,6 +132,6 @@ module _ (s : State) (f n handle : ℕ) where
         → StaysAhead clock g (flowCost (flowOf s g)) (viewOf s) (viewOf after)
     store-start g a = elim (ℕ-discrete (old .queue .waiting) 0)
         as (λ _. StaysAhead clock g (flowCost (flowOf s g)) (viewOf s) (viewOf after)) [
-          | yes q ↦ front-start (tableOf s .cost) clock f (chargeOf n) (charge-idle s f q) (store-front q) g a
+          | yes q ↦ front-start (tableOf s .cost) clock f charge (charge-idle s f q) (store-front q) g a
           | no q ↦ same-start (flowCost (flowOf s g)) clock g (store-behind (omega arith)) a
         ]

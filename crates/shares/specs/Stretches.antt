@@ -16,7 +16,7 @@ use Rattle.shares.specs.Calls.{Counts, call-keeps, call-counts, call-sil
 
 -- every carried state is steady
 pub carried-steady : {s : State} → Carried s → Steady s
-carried-steady (opened s shares largest e) = accepted-steady s shares largest e
+carried-steady (opened s shares largest header e) = accepted-steady s shares largest header e
 carried-steady (next s x c plain gives) = call-keeps s (carried-steady c) (x .call) (x .outcome) plain gives .0
 
 -- a stretch from a carried state ends in one
@@ -26,7 +26,7 @@ carried-on {s} c (x ∷ xs) run = carried-on (next s x c (run .0) (run .1)) xs (
 
 -- a call is a pick or is not
 is-pick : (call : Call) → Dec (call ≡ pick)
-is-pick (opening shares largest) = no λ e. let z : _≡_ {A = ℕ} 0 1 = cc in omega arith
+is-pick (opening shares largest header) = no λ e. let z : _≡_ {A = ℕ} 0 1 = cc in omega arith
 is-pick (arrival flow length handle) = no λ e. let z : _≡_ {A = ℕ} 0 1 = cc in omega arith
 is-pick pick = yes refl
 
@@ -75,13 +75,13 @@ module _ (X : Table) (f : ℕ) (l : f < X .size) where
         | no p ↦ let kept = call-keeps s S (x .call) (x .outcome) (run .0) (run .1) in
             let silent = call-silent s S (x .call) (x .outcome) (run .0) (run .1) p f in
             let rest = share-stretch (x .outcome .state) xs (kept .0) (kept .1 ∙ e) (run .2) (waits .1) in
-            rw (silent .0, silent .1) (omega (arith, rest))
+            rw (silent .1, silent .0) (omega (arith, rest))
       ]
 
 -- where the clocks start they are 0, and so are the tags, and the state is steady
 pub restarted-zeroed : {s : State} → Restarted s → Steady s × Zeroed s
-restarted-zeroed (Restarted.opened s shares largest e) =
-    (accepted-steady s shares largest e, accepted-zeroed s shares largest e)
+restarted-zeroed (Restarted.opened s shares largest header e) =
+    (accepted-steady s shares largest header e, accepted-zeroed s shares largest header e)
 restarted-zeroed (idled s o c t e) = let S = carried-steady c in
     (call-keeps s S pick o tt t .0, call-idle s S pick o tt t e)
 
