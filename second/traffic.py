@@ -1,4 +1,4 @@
-"""Random scripts for the uplink scheduler, each one fixed by a seed and an index.
+"""Random scripts and calls for the uplink scheduler, all fixed by a seed and an index.
 
 A kind of traffic is a table, a habit of lengths and a few phases (bursts, drains,
 full queues, reopenings ...) that follow one another until the script is long enough.
@@ -395,3 +395,31 @@ def random_script(seed, index):
         return with_end_at_limit(script, dice.one_of(ENDS_AT_LIMIT))
     script = script_of_kind(kind, dice, random_size(dice))
     return without_cut_line(script) if dice.chance(50) else script
+
+
+# Calls without a script: an opening has a header, which no script can give.
+
+def random_header(dice):
+    """A header in bytes, one in ten over the 64 that an opening takes."""
+    if dice.chance(10):
+        return dice.one_of([65, 256, 65_536, LARGEST_NUMBER])
+    return dice.one_of([0, 1, 12, 12, 64, 64, dice.between(0, 64)])
+
+
+def damaged_header(dice, header):
+    """What a record's 16 bits for the header may come to hold; now and then it is no other one."""
+    return dice.one_of([0, 1, 63, 64, 65, 128, 255, 256, 32_768, 65_535, max(header - 1, 0), header + 1])
+
+
+def random_calls(seed, index):
+    """Calls without an end: "o", shares, largest packets, header; "a", flow, length, handle; "p"."""
+    dice = Dice("calls", seed, index)
+    kind = KINDS[dice.one_of(sorted(KINDS))]
+    rows = []
+    for letter, *numbers in Traffic(dice, kind).calls():
+        if letter == "f":
+            rows.append(numbers)
+        elif letter == "o":
+            yield ("o", [share for share, _ in rows], [largest for _, largest in rows], random_header(dice))
+        else:
+            yield (letter, *numbers)

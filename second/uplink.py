@@ -1,10 +1,11 @@
 #!/usr/bin/env python3
-"""The script program of the uplink scheduler, written from document 01 alone.
+"""The script program of the uplink scheduler, written from documents 01 and 02 alone.
 
 This is the second program: it shares no code, table or helper with the crates.
-Words in quotation marks are document 01's. Python's whole numbers have no upper
-end, so nothing here can wrap around. A call that is done changes the record and
-the memories in place; a refused call raises Refusal before anything has changed.
+Words in quotation marks are document 01's, or document 02's where they follow "02".
+Python's whole numbers have no upper end, so nothing here can wrap around. A call
+that is done changes the record and the memories in place; a refused call raises
+Refusal before anything has changed.
 """
 
 import os
@@ -40,8 +41,10 @@ class Flow:
 @dataclass
 class Record:
     # "It holds the number of flows, Δ, the clock, the link time, and for each flow: ..."
+    # 02 a): "The opening takes a header size, 0 to 64, which the record keeps"
     # "The blank record is all zeros": Record().
     number_of_flows: int = 0
+    header: int = 0
     leap_width: int = 0
     clock: int = 0
     link_time: int = 0
@@ -50,15 +53,20 @@ class Record:
     def table(self):
         return self.flows[:self.number_of_flows]
 
+    def charge(self, length):
+        # 02 a): "a packet's charge is length plus header"
+        return length + self.header
+
 
 def cost(share):
     # "A byte of a flow costs the flow 720,000 / q ticks, rounded up."
     return (720_000 + share - 1) // share
 
 
-def leap_width(table):
+def leap_width(record):
     # "the largest value, over the table's flows, of largest packet times cost"
-    return max(flow.largest * cost(flow.share) for flow in table)
+    # 02 a): "Tags, clock, link time and Δ use the charge"
+    return max(record.charge(flow.largest) * cost(flow.share) for flow in record.table())
 
 
 def place(f, first, k):
@@ -66,7 +74,8 @@ def place(f, first, k):
     return 64 * f + (first + k) % 64
 
 
-# "The record is well formed when all of these hold": one function for each bullet.
+# "The record is well formed when all of these hold": one function for each bullet, and one for
+# the field that 02 a) adds.
 
 def table_is_well_formed(record):
     # "1 to 64 flows; shares 1 to 1,000 with sum at most 1,000; largest packets 1 to 1,500;
@@ -75,7 +84,7 @@ def table_is_well_formed(record):
     return (1 <= record.number_of_flows <= 64
             and all(1 <= flow.share <= 1000 and 1 <= flow.largest <= 1500 for flow in table)
             and sum(flow.share for flow in table) <= 1000
-            and record.leap_width == leap_width(table))
+            and record.leap_width == leap_width(record))
 
 
 def waiting_is_well_formed(record, memories):
@@ -95,13 +104,19 @@ def tags_are_well_formed(record):
 
 
 def clocks_are_well_formed(record):
-    # "link time is at most the clock; the clock is below 2^62 + 1,081,080,000"
-    return record.link_time <= record.clock < 2**62 + 1_081_080_000
+    # "link time is at most the clock; the clock is below ..."
+    # 02 a): "the record's clock limit 2^62 + 1,127,206,080"
+    return record.link_time <= record.clock < 2**62 + 1_127_206_080
 
 
 def the_rest_is_zero(record):
     # "all fields of flows beyond the number of flows are 0"
     return all(flow == Flow() for flow in record.flows[record.number_of_flows:])
+
+
+def header_is_well_formed(record):
+    # "A field that a request adds to the record later has its stated range as part of the form."
+    return 0 <= record.header <= 64
 
 
 def check_memories(memories):
@@ -115,14 +130,15 @@ def check_memories_and_record(memories, record):
     check_memories(memories)
     if not (table_is_well_formed(record) and waiting_is_well_formed(record, memories)
             and tags_are_well_formed(record) and clocks_are_well_formed(record)
-            and the_rest_is_zero(record)):
+            and the_rest_is_zero(record) and header_is_well_formed(record)):
         raise Refusal(2)
 
 
-def opening(shares, largest_packets, memories):
+def opening(shares, largest_packets, header, memories):
     # "Opening: 1, 3, then flow by flow from 0, 4 before 5, then 6."
+    # 02 a): "3 also when the header is over 64"
     check_memories(memories)
-    if len(shares) != len(largest_packets) or not 1 <= len(shares) <= 64:
+    if len(shares) != len(largest_packets) or not 1 <= len(shares) <= 64 or header > 64:
         raise Refusal(3)
     for f, (share, largest) in enumerate(zip(shares, largest_packets)):
         if not 1 <= share <= 1000:
@@ -133,10 +149,10 @@ def opening(shares, largest_packets, memories):
         raise Refusal(6)
     # "It gives the record with clock, link time, tags, firsts and waiting numbers 0,
     # and sets all 4,096 places of both memories to 0."
-    record = Record(number_of_flows=len(shares))
+    record = Record(number_of_flows=len(shares), header=header)
     for flow, share, largest in zip(record.flows, shares, largest_packets):
         flow.share, flow.largest = share, largest
-    record.leap_width = leap_width(record.table())
+    record.leap_width = leap_width(record)
     memories.lengths[:] = memories.handles[:] = [0] * 4096
     return record
 
@@ -152,9 +168,9 @@ def arrival(record, memories, f, length, handle):
     if flow.waiting == 64:
         raise Refusal(9)
     # "If the flow was empty, its tag becomes the larger of tag and clock, plus n × cost.
-    # Otherwise no tag changes."
+    # Otherwise no tag changes." By 02 a) n is here the charge.
     if flow.waiting == 0:
-        flow.tag = max(flow.tag, record.clock) + length * cost(flow.share)
+        flow.tag = max(flow.tag, record.clock) + record.charge(length) * cost(flow.share)
     # "The packet goes behind the flow's last one."
     behind = place(f, flow.first, flow.waiting)
     memories.lengths[behind], memories.handles[behind] = length, handle
@@ -180,20 +196,21 @@ def pick(record, memories):
     # 3. "If T is greater than clock + 2Δ, add Δ to the clock, once."
     leapt = 1 if tag > record.clock + 2 * record.leap_width else 0
     record.clock += leapt * record.leap_width
-    # 4. "Add 720 × n to clock and link time, n being the packet's length. The freed place
+    # 4. "Add 720 × n to clock and link time": by 02 a) n is the charge. "The freed place
     # becomes 0 in both memories; first goes on by one, 63 to 0."
     front = place(f, flow.first, 0)
     length, handle = memories.lengths[front], memories.handles[front]
-    record.clock += 720 * length
-    record.link_time += 720 * length
+    record.clock += 720 * record.charge(length)
+    record.link_time += 720 * record.charge(length)
     memories.lengths[front] = memories.handles[front] = 0
     flow.first = (flow.first + 1) % 64
     flow.waiting -= 1
     # 5. "If the flow still waits, its tag becomes the larger of T and clock, plus next
-    # length × cost, with the clock after step 4. Otherwise its tag stays T."
+    # length × cost, with the clock after step 4. Otherwise its tag stays T." By 02 a) it is the
+    # next charge × cost.
     if flow.waiting > 0:
         next_length = memories.lengths[place(f, flow.first, 0)]
-        flow.tag = max(tag, record.clock) + next_length * cost(flow.share)
+        flow.tag = max(tag, record.clock) + record.charge(next_length) * cost(flow.share)
     # "The reply is flow, length, handle, T, leapt or not, clock."
     return f, length, handle, tag, leapt, record.clock
 
@@ -249,7 +266,8 @@ class Script:
         self.record = Record()
         shares = [share for share, largest in self.rows]
         largest_packets = [largest for share, largest in self.rows]
-        self.record = opening(shares, largest_packets, self.memories)
+        # "The script opens with 0 for it": for a field that a request adds.
+        self.record = opening(shares, largest_packets, 0, self.memories)
         return [0, 0]
 
 
