@@ -6,6 +6,10 @@
  *   handles  UPLINK_PLACES 32-bit places, the caller's own names for them.
  * The promise on shares holds from an accepted opening on, for as long as all three go unaltered from call to call.
  *
+ * What is charged. A packet is charged its length plus the header: the bytes that the radio sends with each packet, as
+ * told at the opening, 0 for a link without any. Tags, clock, link time, leap width and the promise on shares count
+ * charges. A length, in a call or in a reply, and a largest packet are the packet's own bytes.
+ *
  * What is lent. Each pointer has to hold as many words or places as the count beside it says; NULL is for count 0
  * only. No two things that are lent to a call may overlap, but for an opening's two lists. Apart from that any values
  * may be handed in: a call never crashes, reads and writes nothing outside what is lent, and always returns. It keeps
@@ -44,12 +48,13 @@
 extern "C" {
 #endif
 
-/* Grows by one when a call, a number or a promise of this file is added, changed or taken away; in version 1 the names
- * began with gateway_. The library does not tell its version: use the header that was put beside it. */
-#define UPLINK_VERSION 2
+/* Grows by one when a call, a number or a promise of this file is added, changed or taken away. In version 1 the names
+ * began with gateway_; since version 3 an opening takes a header, which the record keeps and charges count. The library
+ * does not tell its version: use the uplink.h that was put beside it. */
+#define UPLINK_VERSION 3
 
 #define UPLINK_RECORD_WORDS 131
-#define UPLINK_RECORD_ORDER 2
+#define UPLINK_RECORD_ORDER 3
 #define UPLINK_PLACES 4096
 
 /* The words of a pick's reply. */
@@ -72,7 +77,8 @@ extern "C" {
 #define UPLINK_DONE 0
 #define UPLINK_REFUSED_MEMORY 1   /* lengths or handles has not exactly UPLINK_PLACES places */
 #define UPLINK_REFUSED_FORM 2     /* arrival, pick: the record is not well formed, see below */
-#define UPLINK_REFUSED_LISTS 3    /* opening: the two lists differ in length, or have 0 or over 64 entries */
+#define UPLINK_REFUSED_LISTS 3    /* opening: the two lists differ in length, or have 0 or over 64 entries, or the
+                                   * header is over 64 */
 #define UPLINK_REFUSED_SHARE 4    /* opening: a share is outside 1 to 1,000; the flow is told */
 #define UPLINK_REFUSED_LARGEST 5  /* opening: a largest packet is outside 1 to 1,500; the flow is told */
 #define UPLINK_REFUSED_SUM 6      /* opening: the shares sum to more than 1,000 */
@@ -85,26 +91,30 @@ extern "C" {
 #define UPLINK_REFUSED_REPLY 102  /* pick, depth: reply has not exactly its number of words */
 
 /* Well formed (2) is what docs/RULES.md, "The record", asks of the record and of the lengths that wait, and no more:
+ *   - the header is 0 to 64;
  *   - 1 to 64 flows, each with a share of 1 to 1,000 and a largest packet of 1 to 1,500; the shares sum to at most
- *     1,000; the leap width is the greatest of the flows' largest packet x (720,000 / share, rounded up);
+ *     1,000; the leap width is the greatest of the flows' (largest packet + header) x (720,000 / share, rounded up);
  *   - a flow's first place is 0 to 63, its number waiting 0 to 64, each of its waiting lengths 1 to its largest packet;
  *   - the tag of a flow that waits is from the clock to 3 leap widths above it, any other flow's at most 2 above it;
- *   - the link time is at most the clock, and the clock is below 2^62 + 1,081,080,000;
+ *   - the link time is at most the clock, and the clock is below 2^62 + 1,127,206,080;
  *   - all that belongs to flows beyond the last is 0.
  * What the scheduler leaves after an accepted opening is always so. Some records that it could never have left are so
  * too: a record that was damaged is not sure to be refused, and the promise on shares does not hold for it.
  *
- * The clock's end (10) comes after over 4,265 million picks without one UPLINK_IDLE, at the earliest. From then on
- * every pick is refused: what waits is not sent, and so UPLINK_IDLE does not come. Only an opening helps. What waits
- * stays in the memories, and arrivals are taken until their flow is full. The opening sets all places to 0 and so
- * forgets what waits: the caller, who knows these packets by their handles, brings them in again. */
+ * The clock's end (10) comes after over 4,091 million picks without one UPLINK_IDLE, at the earliest: a pick adds at
+ * most a leap of 1,126,080,000 and 720 x 1,564 to the clock. From then on every pick is refused: what waits is not
+ * sent, and so UPLINK_IDLE does not come. Only an opening helps. What waits stays in the memories, and arrivals are
+ * taken until their flow is full. The opening sets all places to 0 and so forgets what waits: the caller, who knows
+ * these packets by their handles, brings them in again. */
 
-/* Opens a table of 1 to 64 flows: share i (thousandths of the link) and largest packet i (bytes) are flow i's.
+/* Opens a table of 1 to 64 flows: share i (thousandths of the link) and largest packet i (bytes) are flow i's. `header`
+ * is what the link adds to each packet, 0 to 64 bytes.
  * Where it is done, record is that of the table with nothing waiting, and every place of both memories is 0.
  * Its answer is taken apart by uplink_number and, with 4 and 5, uplink_flow.
  * Order of refusals: 101, 1, 3, then flow by flow 4 before 5, then 6. */
 uint64_t uplink_opening(const uint32_t *shares, size_t shares_count,
                         const uint32_t *largest, size_t largest_count,
+                        uint32_t header,
                         uint64_t *record, size_t record_words,
                         uint16_t *lengths, size_t lengths_places,
                         uint32_t *handles, size_t handles_places);

@@ -1,8 +1,9 @@
 //! The uplink scheduler for Rust: a safe wrapper over the functions of `uplink.h`, which says more of each.
-//! Lengths are in bytes. Tags and clocks are in ticks: a byte takes the link 720 of them.
+//! Lengths are in bytes. Tags and clocks are in ticks: a byte takes the link 720 of them. A packet is charged its
+//! length plus the link's header.
 //!
-//! It is taken in as a module, in any edition, and needs the standard library alone. `unsafe extern` asks for rustc 1.82
-//! or later.
+//! It is taken in as a module, in any edition, and needs the standard library alone. `unsafe extern` asks for rustc
+//! 1.82 or later.
 //!
 //! With Cargo: of what `tools/library` puts into `target/library`, copy `uplink.rs` to `src/` and `libuplink.a` to a
 //! folder `lib/` beside `Cargo.toml`. Write `mod uplink;` into `src/main.rs`, and into `build.rs`, beside `Cargo.toml`:
@@ -24,7 +25,7 @@ use std::fmt;
 
 pub const RECORD_WORDS: usize = 131;
 /// The order of a record's words: one kept by a library of another order has to be opened anew.
-pub const RECORD_ORDER: u32 = 2;
+pub const RECORD_ORDER: u32 = 3;
 pub const PLACES: usize = 4096;
 const REPLY_WORDS: usize = 6;
 const DEPTH_WORDS: usize = 4;
@@ -36,6 +37,7 @@ unsafe extern "C" {
         shares_count: usize,
         largest: *const u32,
         largest_count: usize,
+        header: u32,
         record: *mut u64,
         record_words: usize,
         lengths: *mut u16,
@@ -76,7 +78,7 @@ unsafe extern "C" {
 /// Why a call was refused, by the numbers of `uplink.h`. A refused call changes nothing.
 #[derive(Clone, Copy, Debug, PartialEq, Eq)]
 pub enum Refusal {
-    /// 3: the two lists differ in length, or have 0 or over 64 entries.
+    /// 3: the two lists differ in length, or have 0 or over 64 entries, or the header is over 64.
     Lists,
     /// 4: the share of this flow is outside 1 to 1,000.
     Share(u32),
@@ -90,8 +92,8 @@ pub enum Refusal {
     Length,
     /// 9: 64 packets already wait in that flow.
     Full,
-    /// 10: something waits and the clock is 2^62 or more. Every later pick is refused too, for what waits is not sent and
-    /// so no Idle comes: only a new `open` helps, and what waits has to be brought in again.
+    /// 10: something waits and the clock is 2^62 or more. Every later pick is refused too, for what waits is not sent
+    /// and so no Idle comes: only a new `open` helps, and what waits has to be brought in again.
     Clock,
     /// Any other number: 1, 2, 101 and 102 cannot come from an `Uplink`, whose lengths are right and whose record only
     /// the scheduler writes.
@@ -101,9 +103,9 @@ pub enum Refusal {
 impl fmt::Display for Refusal {
     fn fmt(&self, f: &mut fmt::Formatter<'_>) -> fmt::Result {
         match *self {
-            Refusal::Lists => {
-                f.write_str("3: the two lists differ in length, or have 0 or over 64 entries")
-            }
+            Refusal::Lists => f.write_str(
+                "3: the two lists differ in length, or have 0 or over 64 entries, or the header is over 64",
+            ),
             Refusal::Share(flow) => {
                 write!(f, "4: the share of flow {} is outside 1 to 1,000", flow)
             }
@@ -180,7 +182,8 @@ pub struct Uplink {
 
 impl Uplink {
     /// Opens a table of 1 to 64 flows: `shares[i]` (thousandths of the link) and `largest[i]` (bytes) are flow i's.
-    pub fn open(shares: &[u32], largest: &[u32]) -> Result<Uplink, Refusal> {
+    /// `header` is what the link adds to each packet, 0 to 64 bytes.
+    pub fn open(shares: &[u32], largest: &[u32], header: u32) -> Result<Uplink, Refusal> {
         let mut link = Uplink {
             record: [0; RECORD_WORDS],
             lengths: Box::new([0; PLACES]),
@@ -193,6 +196,7 @@ impl Uplink {
                 shares.len(),
                 largest.as_ptr(),
                 largest.len(),
+                header,
                 link.record.as_mut_ptr(),
                 RECORD_WORDS,
                 link.lengths.as_mut_ptr(),
@@ -259,7 +263,8 @@ impl Uplink {
         }
     }
 
-    /// How many packets wait in `flow`, so that a gateway can push back before it is full, and what the flow has booked.
+    /// How many packets wait in `flow`, so that a gateway can push back before it is full, and what the flow has
+    /// booked.
     pub fn depth(&self, flow: u32) -> Result<Depth, Refusal> {
         let mut reply = [0u64; DEPTH_WORDS];
         // Safety: as in `open`; the record is only read.
