@@ -22,15 +22,16 @@ struct load {
     uint32_t flows;
     uint32_t first_share, first_largest; /* of flow 0 */
     uint32_t share, largest;             /* of every other flow */
+    uint32_t header;                     /* bytes; read at run time, so that no code is compiled for one header */
     uint32_t waiting, waiting_spread;    /* flow f has waiting + f mod waiting_spread packets */
-    unsigned copies, turns; /* picks in a row, and then arrivals, between two readings of the time: turns on each copy */
+    unsigned copies, turns; /* picks in a row, then arrivals, between two readings of the time: turns on each copy */
     unsigned rounds;
 };
 
 static const struct load loads[] = {
-    {"two", 2, 500, 1500, 500, 1500, 3, 1, MOST_COPIES, 1, 600},
-    {"camera", 61, 400, 1500, 10, 200, 1, 8, 1, 16, 200},
-    {"full", 64, 15, 1500, 15, 1500, 64, 1, 1, MOST_CALLS, 5},
+    {"two", 2, 500, 1500, 500, 1500, 0, 3, 1, MOST_COPIES, 1, 600},
+    {"camera", 61, 400, 1500, 10, 200, 0, 1, 8, 1, 16, 200},
+    {"full", 64, 15, 1500, 15, 1500, 0, 64, 1, 1, MOST_CALLS, 5},
 };
 
 static struct side sides[MOST_COPIES];
@@ -53,7 +54,7 @@ static void fill(const struct load *load, struct side *side)
         shares[f] = f == 0 ? load->first_share : load->share;
         largest[f] = f == 0 ? load->first_largest : load->largest;
     }
-    must(side_opening(side, shares, largest, load->flows) == 0);
+    must(side_opening(side, shares, largest, load->flows, load->header) == 0);
     for (uint32_t f = 0; f < load->flows; f++) {
         for (uint32_t k = 0; k < load->waiting + f % load->waiting_spread; k++) {
             number = number * 1664525 + 1013904223;

@@ -4,9 +4,10 @@
 
 #define MAX_SHARE 1000
 #define MAX_LARGEST 1500
+#define MAX_HEADER 64
 #define TICKS_PER_BYTE 720
 #define PICK_END (UINT64_C(1) << 62) /* no pick from this clock on */
-#define CLOCK_END (PICK_END + 1081080000)
+#define CLOCK_END (PICK_END + 1127206080)
 
 /* "A byte of a flow costs the flow 720,000 / q ticks, rounded up." One entry for each share from 1 to 1,000. */
 #define COST(q) (720000 + (q) - 1) / (q)
@@ -27,10 +28,16 @@ static uint32_t cost(uint32_t share)
     return cost_table[share - 1];
 }
 
-/* What a flow's largest packet costs it; "the leap width is the largest value, over the table's flows". */
-static uint32_t reach(uint32_t share, uint32_t largest)
+/* "a packet's charge is length plus header" */
+static uint32_t charge(const struct plain_record *record, uint32_t length)
 {
-    return largest * cost(share);
+    return length + record->header;
+}
+
+/* What a flow's largest packet costs it; "the leap width is the largest value, over the table's flows". */
+static uint32_t reach(const struct plain_record *record, uint32_t share, uint32_t largest)
+{
+    return charge(record, largest) * cost(share);
 }
 
 static uint64_t larger(uint64_t a, uint64_t b)
@@ -110,7 +117,7 @@ static bool well_formed(const struct plain_record *record, const uint16_t *lengt
     uint32_t sum = 0;
     uint32_t leap = 0;
 
-    if (record->flows < 1 || record->flows > PLAIN_FLOWS)
+    if (record->flows < 1 || record->flows > PLAIN_FLOWS || record->header > MAX_HEADER)
         return false;
     if (record->clock >= CLOCK_END || record->link > record->clock)
         return false;
@@ -128,8 +135,8 @@ static bool well_formed(const struct plain_record *record, const uint16_t *lengt
         if (!lengths_fit(flow, lengths + PLAIN_RING * f))
             return false;
         sum += flow->share;
-        if (leap < reach(flow->share, flow->largest))
-            leap = reach(flow->share, flow->largest);
+        if (leap < reach(record, flow->share, flow->largest))
+            leap = reach(record, flow->share, flow->largest);
     }
     if (sum > MAX_SHARE || leap != record->leap)
         return false;
@@ -142,12 +149,12 @@ static bool well_formed(const struct plain_record *record, const uint16_t *lengt
 #endif
 
 /* "Opening: 1, 3, then flow by flow from 0, 4 before 5, then 6." */
-static enum plain_answer refuse_lists(const uint32_t *shares, size_t shares_count,
-                                      const uint32_t *largest, size_t largest_count, uint32_t *at)
+static enum plain_answer refuse_table(const uint32_t *shares, size_t shares_count,
+                                      const uint32_t *largest, size_t largest_count, uint32_t header, uint32_t *at)
 {
     uint32_t sum = 0;
 
-    if (shares_count != largest_count || shares_count == 0 || shares_count > PLAIN_FLOWS)
+    if (shares_count != largest_count || shares_count == 0 || shares_count > PLAIN_FLOWS || header > MAX_HEADER)
         return PLAIN_BAD_LISTS;
     for (uint32_t f = 0; f < shares_count; f++) {
         if (shares[f] < 1 || shares[f] > MAX_SHARE) {
@@ -167,6 +174,7 @@ static enum plain_answer refuse_lists(const uint32_t *shares, size_t shares_coun
  * memories to 0." */
 enum plain_answer plain_opening(const uint32_t *shares, size_t shares_count,
                                 const uint32_t *largest, size_t largest_count,
+                                uint32_t header,
                                 struct plain_record *record,
                                 uint16_t *lengths, size_t lengths_places,
                                 uint32_t *handles, size_t handles_places,
@@ -178,16 +186,17 @@ enum plain_answer plain_opening(const uint32_t *shares, size_t shares_count,
     memset(record, 0, sizeof *record); /* "A refusal returns .. (opening: the blank record)" */
     if (lengths_places != PLAIN_PLACES || handles_places != PLAIN_PLACES)
         return PLAIN_BAD_MEMORY;
-    answer = refuse_lists(shares, shares_count, largest, largest_count, at);
+    answer = refuse_table(shares, shares_count, largest, largest_count, header, at);
     if (answer != PLAIN_DONE)
         return answer;
 
-    record->flows = (uint32_t)shares_count;
+    record->flows = (uint16_t)shares_count;
+    record->header = (uint16_t)header;
     for (uint32_t f = 0; f < record->flows; f++) {
         record->flow[f].share = (uint16_t)shares[f];
         record->flow[f].largest = (uint16_t)largest[f];
-        if (record->leap < reach(shares[f], largest[f]))
-            record->leap = reach(shares[f], largest[f]);
+        if (record->leap < reach(record, shares[f], largest[f]))
+            record->leap = reach(record, shares[f], largest[f]);
     }
     memset(lengths, 0, PLAIN_PLACES * sizeof *lengths);
     memset(handles, 0, PLAIN_PLACES * sizeof *handles);
@@ -195,7 +204,7 @@ enum plain_answer plain_opening(const uint32_t *shares, size_t shares_count,
 }
 
 /* "The packet goes behind the flow's last one. If the flow was empty, its tag becomes the larger of tag and clock, plus
- * n x cost. Otherwise no tag changes." */
+ * n x cost. Otherwise no tag changes." Here and in a pick n is the charge. */
 enum plain_answer plain_arrival(uint32_t f, uint32_t length, uint32_t handle,
                                 struct plain_record *record,
                                 uint16_t *lengths, size_t lengths_places,
@@ -222,7 +231,7 @@ enum plain_answer plain_arrival(uint32_t f, uint32_t length, uint32_t handle,
     lengths[last] = (uint16_t)length;
     handles[last] = handle;
     if (flow->waiting == 0)
-        flow->tag = larger(flow->tag, record->clock) + (uint64_t)length * cost(flow->share);
+        flow->tag = larger(flow->tag, record->clock) + (uint64_t)charge(record, length) * cost(flow->share);
     flow->waiting++;
     return PLAIN_DONE;
 }
@@ -271,8 +280,8 @@ static void serve(struct plain_record *record, uint32_t f, uint16_t *lengths, ui
         record->clock += leap;
     /* "Add 720 x n to clock and link time. The freed place becomes 0 in both memories; first goes on by one, 63 to
      * 0." */
-    record->clock += (uint64_t)TICKS_PER_BYTE * reply->length;
-    record->link += (uint64_t)TICKS_PER_BYTE * reply->length;
+    record->clock += (uint64_t)TICKS_PER_BYTE * charge(record, reply->length);
+    record->link += (uint64_t)TICKS_PER_BYTE * charge(record, reply->length);
     reply->clock = record->clock;
     lengths[front] = 0;
     handles[front] = 0;
@@ -281,7 +290,7 @@ static void serve(struct plain_record *record, uint32_t f, uint16_t *lengths, ui
     /* "If the flow still waits, its tag becomes the larger of T and clock, plus next length x cost." */
     if (flow->waiting > 0)
         flow->tag = larger(flow->tag, record->clock)
-                  + (uint64_t)lengths[place(record, f, 0)] * cost(flow->share);
+                  + (uint64_t)charge(record, lengths[place(record, f, 0)]) * cost(flow->share);
 }
 
 enum plain_answer plain_pick(struct plain_record *record,

@@ -1,4 +1,5 @@
-/* The uplink scheduler in plain C: the three calls of document 01 over a record by pointer, and a look at one flow.
+/* The uplink scheduler in plain C: the three calls of document 01, with the header of document 02, over a record by
+ * pointer, and a look at one flow.
  *
  * The caller owns the record and the two memories. A refused opening leaves the blank record, which is all zeros, and
  * both memories as they were; any other refused call changes nothing.
@@ -39,9 +40,11 @@ struct plain_flow {
     uint16_t waiting;
 };
 
-/* "It holds the number of flows, the leap width, the clock, the link time, and for each flow: .." */
+/* "It holds the number of flows, the leap width, the clock, the link time, and for each flow: .." and the header, in
+ * bytes */
 struct plain_record {
-    uint32_t flows;
+    uint16_t flows;
+    uint16_t header;
     uint32_t leap;
     uint64_t clock;
     uint64_t link;
@@ -61,6 +64,7 @@ struct plain_reply {
 /* *at becomes the flow's number with PLAIN_BAD_SHARE and PLAIN_BAD_LARGEST, and 0 with every other answer. */
 enum plain_answer plain_opening(const uint32_t *shares, size_t shares_count,
                                 const uint32_t *largest, size_t largest_count,
+                                uint32_t header,
                                 struct plain_record *record,
                                 uint16_t *lengths, size_t lengths_places,
                                 uint32_t *handles, size_t handles_places,

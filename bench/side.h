@@ -32,15 +32,16 @@ struct side {
     uint32_t handles[UPLINK_PLACES];
 };
 
-static inline uint64_t side_opening(struct side *side, const uint32_t *shares, const uint32_t *largest, size_t flows)
+static inline uint64_t side_opening(struct side *side, const uint32_t *shares, const uint32_t *largest, size_t flows,
+                                    uint32_t header)
 {
 #ifdef OURS
-    return uplink_opening(shares, flows, largest, flows, side->record, UPLINK_RECORD_WORDS,
+    return uplink_opening(shares, flows, largest, flows, header, side->record, UPLINK_RECORD_WORDS,
                            side->lengths, UPLINK_PLACES, side->handles, UPLINK_PLACES);
 #else
     uint32_t at;
 
-    return plain_opening(shares, flows, largest, flows, side->record,
+    return plain_opening(shares, flows, largest, flows, header, side->record,
                          side->lengths, UPLINK_PLACES, side->handles, UPLINK_PLACES, &at);
 #endif
 }
