@@ -43,7 +43,7 @@ static uint64_t library_answer(const struct call *call, const struct state *stat
         const uint32_t *shares_at = lend(&shares, call->shares_count, call->shares, CALL_ROWS);
         const uint32_t *largest_at = lend(&largest, call->largest_count, call->largest, CALL_ROWS);
 
-        return uplink_opening(shares_at, call->shares_count, largest_at, call->largest_count,
+        return uplink_opening(shares_at, call->shares_count, largest_at, call->largest_count, call->header,
                                record_at, call->record_words, lengths_at, call->lengths_places,
                                handles_at, call->handles_places);
     }
@@ -101,8 +101,9 @@ static uint64_t plain_answer(const struct call *call, struct state *state, uint6
     if (call->record_words != UPLINK_RECORD_WORDS)
         return UPLINK_REFUSED_RECORD;
     if (call->kind == OPENING) {
-        answer = plain_opening(call->shares, call->shares_count, call->largest, call->largest_count, &state->record,
-                               state->lengths, call->lengths_places, state->handles, call->handles_places, &at);
+        answer = plain_opening(call->shares, call->shares_count, call->largest, call->largest_count, call->header,
+                               &state->record, state->lengths, call->lengths_places,
+                               state->handles, call->handles_places, &at);
         return answer | (uint64_t)at << 32;
     }
     if (call->kind == ARRIVAL)
@@ -162,6 +163,7 @@ static void show(const struct call *call)
         printf(", reply words %zu", call->reply_words);
     printf("\n");
     if (call->kind == OPENING) {
+        printf("  header: %" PRIu32 "\n", call->header);
         show_list("shares", call->shares, call->shares_count);
         show_list("largest packets", call->largest, call->largest_count);
     }
@@ -190,8 +192,9 @@ bool call_agrees(const struct call *call, struct state *state, struct outcome *o
     same = loans_hold(call, state, taken ? reply_next : reply_given);
     if (got == expected && same)
         return true;
-    printf("  given: flows %" PRIu32 ", leap width %" PRIu32 ", clock %" PRIu64 ", link time %" PRIu64 "\n",
-           given.record.flows, given.record.leap, given.record.clock, given.record.link);
+    printf("  given: flows %" PRIu16 ", header %" PRIu16 ", leap width %" PRIu32 ", clock %" PRIu64 ", link time %"
+           PRIu64 "\n", given.record.flows, given.record.header, given.record.leap, given.record.clock,
+           given.record.link);
     show(call);
     return false;
 }

@@ -20,6 +20,7 @@ struct call {
     uint32_t length, handle;                              /* arrival */
     uint32_t shares[CALL_ROWS], largest[CALL_ROWS];       /* opening */
     size_t shares_count, largest_count;
+    uint32_t header;                                      /* opening; bytes */
     size_t record_words;                                  /* all */
     size_t lengths_places, handles_places;                /* all but depth */
     size_t reply_words;                                   /* pick, depth */

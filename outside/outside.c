@@ -6,7 +6,8 @@
  * of wrong lengths. After each call the answer, every word of the block, every place of both memories, every word of
  * the reply and guards around all of them are compared; after a refused opening the block has to be all zeros, and
  * after any other refused call nothing may have changed. Stops at the first difference. In a million calls or more,
- * each answer, and each of a depth's, has to come up a thousand times; in fewer calls, once in a thousand. */
+ * each answer, each of a depth's, a leap and an opening refused for its header alone have to come up a thousand times;
+ * in fewer calls, once in a thousand. */
 #include <inttypes.h>
 #include <signal.h>
 #include <stdio.h>
@@ -20,12 +21,19 @@
 
 static uint64_t wanted, compared, seed;
 static uint64_t counts[CALL_KINDS][ANSWERS];
-static uint64_t leaps;
+static uint64_t leaps, headers_refused;
 static struct state state;
 
 static bool more(void)
 {
     return compared < wanted;
+}
+
+/* True where it is the header alone that made an opening answer 3: its lists are of one length, 1 to 64. */
+static bool refused_for_header(const struct call *call, uint32_t answer)
+{
+    return call->kind == OPENING && answer == UPLINK_REFUSED_LISTS && call->shares_count == call->largest_count
+        && call->shares_count >= 1 && call->shares_count <= PLAIN_FLOWS;
 }
 
 /* Makes the call and counts its answer; ends the run at a difference. */
@@ -40,6 +48,7 @@ static uint32_t try_call(const struct call *call)
     compared++;
     counts[call->kind][outcome.answer]++;
     leaps += outcome.leapt;
+    headers_refused += refused_for_header(call, outcome.answer);
     if (compared % (wanted < 10 ? 1 : wanted / 10) == 0) {
         printf("%" PRIu64 " of %" PRIu64 " calls agree\n", compared, wanted);
         fflush(stdout);
@@ -139,6 +148,7 @@ static struct call good_opening(void)
     make_table(call.shares, call.largest, flows);
     call.shares_count = flows;
     call.largest_count = flows;
+    call.header = make_header();
     return call;
 }
 
@@ -146,16 +156,18 @@ static void spoil_table(struct call *call)
 {
     static const uint32_t shares[] = {0, 1001, 65536, 65537, UINT32_MAX};
     static const uint32_t largest[] = {0, 1501, 65536, 65537, UINT32_MAX};
+    const uint32_t headers[] = {65, 66, 128, 256, 65536, 65536 + call->header, UINT32_MAX};
     const size_t rows[] = {0, 1, 63, 64, 65, 66, call->shares_count + ((size_t)1 << 32)};
     size_t row = spread(call->shares_count < 1 || call->shares_count > 64 ? 63 : call->shares_count - 1);
 
-    switch (below(7)) {
+    switch (below(8)) {
     case 0: call->shares[row] = ONE_OF(shares); break;
     case 1: call->largest[row] = ONE_OF(largest); break;
     case 2: call->shares[row] += (uint32_t)spread(1000); break;
     case 3: call->shares[row]++; break;
     case 4: call->shares_count = ONE_OF(rows); break;
     case 5: call->largest_count = ONE_OF(rows); break;
+    case 6: call->header = ONE_OF(headers); break;
     default:
         call->shares_count = ONE_OF(rows);
         call->largest_count = call->shares_count;
@@ -267,12 +279,12 @@ static bool enough_depths(uint64_t needed)
         && depths[UPLINK_REFUSED_RECORD] >= needed && depths[UPLINK_REFUSED_REPLY] >= needed;
 }
 
-/* True where every answer, and leaps, came up often enough. */
+/* True where every answer, leaps and headers that were refused came up often enough. */
 static bool report(void)
 {
     static const uint32_t answers[] = {0, 1, 2, 3, 4, 5, 6, 7, 8, 9, 10, UPLINK_IDLE, 101, 102};
     uint64_t needed = wanted < 1000000 ? wanted / 1000 : 1000;
-    bool enough = leaps >= needed && enough_depths(needed);
+    bool enough = leaps >= needed && headers_refused >= needed && enough_depths(needed);
 
     printf("%8s %10s %10s %10s %10s %10s\n", "answer", "opening", "arrival", "pick", "depth", "all");
     for (size_t i = 0; i < sizeof answers / sizeof *answers; i++) {
@@ -284,8 +296,9 @@ static bool report(void)
         enough = enough && count(answer) >= needed;
     }
     printf("%8s %10s %10s %10" PRIu64 "\n", "leaps", "", "", leaps);
+    printf("%8s %10" PRIu64 "   refused for the header alone\n", "headers", headers_refused);
     if (!enough)
-        printf("an answer came up fewer than %" PRIu64 " times\n", needed);
+        printf("an answer, a leap or a refused header came up fewer than %" PRIu64 " times\n", needed);
     return enough;
 }
 

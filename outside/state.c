@@ -5,7 +5,8 @@
 #include "dice.h"
 
 #define TWO62 (UINT64_C(1) << 62)
-#define CLOCK_END (TWO62 + 1081080000)
+#define BEYOND_TWO62 1127206080 /* the widest leap, and 720 ticks for each byte of the greatest charge */
+#define CLOCK_END (TWO62 + BEYOND_TWO62)
 
 /* Where the words of the tags and of the four fields begin. */
 enum { TAGS = 3, SHARES = 67, LARGEST = 83, FIRSTS = 99, WAITING = 115 };
@@ -23,7 +24,7 @@ static uint16_t entry_at(const uint64_t *field, size_t f)
 void to_words(const struct plain_record *record, uint64_t words[UPLINK_RECORD_WORDS])
 {
     memset(words, 0, UPLINK_RECORD_WORDS * sizeof *words);
-    words[0] = record->flows | (uint64_t)record->leap << 32;
+    words[0] = record->flows | (uint64_t)record->header << 16 | (uint64_t)record->leap << 32;
     words[1] = record->clock;
     words[2] = record->link;
     for (size_t f = 0; f < PLAIN_FLOWS; f++) {
@@ -39,7 +40,8 @@ void to_words(const struct plain_record *record, uint64_t words[UPLINK_RECORD_WO
 
 void from_words(struct plain_record *record, const uint64_t words[UPLINK_RECORD_WORDS])
 {
-    record->flows = (uint32_t)words[0];
+    record->flows = (uint16_t)words[0];
+    record->header = (uint16_t)(words[0] >> 16);
     record->leap = (uint32_t)(words[0] >> 32);
     record->clock = words[1];
     record->link = words[2];
@@ -59,6 +61,11 @@ uint32_t make_flows(void)
     static const uint32_t often[] = {1, 1, 2, 2, 3, 4, 61, 63, 64, 64};
 
     return one_in(3) ? 1 + (uint32_t)below(64) : ONE_OF(often);
+}
+
+uint32_t make_header(void)
+{
+    return one_in(4) ? 12 : (uint32_t)spread(64);
 }
 
 /* Every flow gets 1; of what is left, nothing, all or some is dealt out in a few portions. */
@@ -88,7 +95,7 @@ static uint64_t make_clock(void)
     case 3: return TWO62 - 1;
     case 4: return TWO62 + spread(2);
     case 5: return CLOCK_END - 1 - spread(2);
-    case 6: return TWO62 + below(1081080000);
+    case 6: return TWO62 + below(BEYOND_TWO62);
     default: return below(4000000000);
     }
 }
@@ -123,6 +130,8 @@ static void fill_ring(struct state *state, uint32_t f, bool tidy)
     }
 }
 
+/* The leap width of the record's table and header. Where the header is far over its limit, the products go round at
+ * 2^32, as in a test that forgot the limit. */
 static uint32_t widest(const struct plain_record *record)
 {
     uint32_t leap = 0;
@@ -130,9 +139,10 @@ static uint32_t widest(const struct plain_record *record)
     for (uint32_t f = 0; f < record->flows; f++) {
         uint32_t share = record->flow[f].share;
         uint32_t cost = (720000 + share - 1) / share;
+        uint32_t charge = (uint32_t)record->flow[f].largest + record->header;
 
-        if (leap < record->flow[f].largest * cost)
-            leap = record->flow[f].largest * cost;
+        if (leap < charge * cost)
+            leap = charge * cost;
     }
     return leap;
 }
@@ -147,7 +157,8 @@ void make_built(struct state *state)
 
     memset(state, 0, sizeof *state);
     make_table(shares, largest, flows);
-    record->flows = flows;
+    record->flows = (uint16_t)flows;
+    record->header = (uint16_t)make_header();
     for (uint32_t f = 0; f < flows; f++) {
         record->flow[f].share = (uint16_t)shares[f];
         record->flow[f].largest = (uint16_t)largest[f];
@@ -183,7 +194,7 @@ void make_noise(struct state *state)
     for (size_t i = 0; i < UPLINK_RECORD_WORDS; i++)
         words[i] = dice() >> below(64);
     if (one_in(2))
-        words[0] = make_flows() | dice() << 32;
+        words[0] = make_flows() | (uint64_t)make_header() << 16 | dice() << 32;
     from_words(&state->record, words);
     for (size_t i = 0; i < UPLINK_PLACES; i++) {
         uint64_t noise = dice();
@@ -193,33 +204,8 @@ void make_noise(struct state *state)
     }
 }
 
-static void damage_head(struct plain_record *record)
-{
-    const uint32_t flows[] = {0, 1, 64, 65, 128, 4000000000, UINT32_MAX, record->flows - 1, record->flows + 1,
-                              record->flows + 65536};
-    const uint32_t leaps[] = {record->leap - 1, record->leap + 1, 0, UINT32_MAX, (uint32_t)dice()};
-    const uint64_t clocks[] = {TWO62 - 1, TWO62, TWO62 + 1, CLOCK_END - 1, CLOCK_END, CLOCK_END + 1, TWO62 * 2,
-                               UINT64_MAX - 1, UINT64_MAX, record->link, record->link - 1, record->clock - 1,
-                               record->clock + 1, UINT64_MAX - spread(4000000000)};
-    const uint64_t links[] = {0, record->clock - 1, record->clock, record->clock + 1, TWO62, UINT64_MAX, dice()};
-
-    switch (below(5)) {
-    case 0: record->flows = ONE_OF(flows); break;
-    case 1: record->leap = ONE_OF(leaps); break;
-    case 2: record->clock = ONE_OF(clocks); break;
-    case 3: record->link = ONE_OF(links); break;
-    default: /* the clock with all that hangs on it */
-        record->clock = ONE_OF(clocks);
-        record->link = ONE_OF(links);
-        for (uint32_t f = 0; f < PLAIN_FLOWS; f++)
-            if (record->flow[f].share > 0)
-                record->flow[f].tag = record->clock + spread(2 * (uint64_t)record->leap);
-        break;
-    }
-}
-
-/* Where the table is still one that could be opened, half the time the leap width is made to fit it again, so that
- * only the limit that was tried decides. */
+/* Where the table is still one that could be opened, half the time the leap width is made to fit it and the header
+ * again, so that only the limit that was tried decides. */
 static void refit(struct plain_record *record)
 {
     if (record->flows > PLAIN_FLOWS)
@@ -229,6 +215,41 @@ static void refit(struct plain_record *record)
             return;
     if (one_in(2))
         record->leap = widest(record);
+}
+
+/* The header past its limit, or another one that fits. */
+static void damage_header(struct plain_record *record)
+{
+    const uint16_t headers[] = {0, 1, 12, 63, 64, 65, 66, 128, 255, 256, 32768, UINT16_MAX,
+                                record->header - 1, record->header + 1};
+
+    record->header = ONE_OF(headers);
+    refit(record);
+}
+
+static void damage_head(struct plain_record *record)
+{
+    const uint16_t flows[] = {0, 1, 64, 65, 128, 256, 32768, UINT16_MAX, record->flows - 1, record->flows + 1};
+    const uint32_t leaps[] = {record->leap - 1, record->leap + 1, 0, UINT32_MAX, (uint32_t)dice()};
+    const uint64_t clocks[] = {TWO62 - 1, TWO62, TWO62 + 1, CLOCK_END - 1, CLOCK_END, CLOCK_END + 1, TWO62 * 2,
+                               UINT64_MAX - 1, UINT64_MAX, record->link, record->link - 1, record->clock - 1,
+                               record->clock + 1, UINT64_MAX - spread(4000000000)};
+    const uint64_t links[] = {0, record->clock - 1, record->clock, record->clock + 1, TWO62, UINT64_MAX, dice()};
+
+    switch (below(7)) {
+    case 0: record->flows = ONE_OF(flows); break;
+    case 1: record->leap = ONE_OF(leaps); break;
+    case 2: record->clock = ONE_OF(clocks); break;
+    case 3: record->link = ONE_OF(links); break;
+    case 4: case 5: damage_header(record); break;
+    default: /* the clock with all that hangs on it */
+        record->clock = ONE_OF(clocks);
+        record->link = ONE_OF(links);
+        for (uint32_t f = 0; f < PLAIN_FLOWS; f++)
+            if (record->flow[f].share > 0)
+                record->flow[f].tag = record->clock + spread(2 * (uint64_t)record->leap);
+        break;
+    }
 }
 
 static void damage_flow(struct plain_record *record, struct plain_flow *flow)

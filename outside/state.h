@@ -13,14 +13,16 @@ struct state {
     uint32_t handles[UPLINK_PLACES];
 };
 
-/* The block's layout: word 0 is flows + 2^32 leap width, word 1 the clock, word 2 the link time; words 3 to 66 are the
- * tags; then 16 words each for shares, largest packets, firsts and numbers waiting, four flows to a word. */
+/* The block's layout: word 0 is flows + 2^16 header + 2^32 leap width, word 1 the clock, word 2 the link time; words 3
+ * to 66 are the tags; then 16 words each for shares, largest packets, firsts and numbers waiting, four flows to a
+ * word. */
 void to_words(const struct plain_record *record, uint64_t words[UPLINK_RECORD_WORDS]);
 void from_words(struct plain_record *record, const uint64_t words[UPLINK_RECORD_WORDS]);
 
-/* A table of `flows` rows that an opening takes. */
+/* A table of `flows` rows, and a header in bytes, that an opening takes. */
 void make_table(uint32_t *shares, uint32_t *largest, uint32_t flows);
 uint32_t make_flows(void);
+uint32_t make_header(void);
 
 void make_built(struct state *state);  /* well formed, with many fields at their limits */
 void make_blank(struct state *state);  /* no flow at all: zeros, but for the clocks */
