@@ -8,7 +8,7 @@ use lib.Dec.{eqb}
 use lib.ListN.{replicate, getD}
 use Rattle.below.specs.Truth.{apart}
 use Rattle.uplink.specs.Calls.{everyRule}
-use Rattle.gateway.specs.Image.{fieldWords, fieldIn, wordsOf, recordOf}
+use Rattle.gateway.specs.Image.{fieldWords, quarter, fieldIn, wordsOf, recordOf}
 use Rattle.gateway.specs.Gateway.{Lent, Answered, lending, answered, told}
 use Rattle.gateway.specs.Gateway.{gatewayOpening, gatewayArrival, gatewayPick, gatewayDepth}
 
@@ -40,7 +40,7 @@ pub drops-header-differs : dropsHeader (500 ∷ 500 ∷ []) (100 ∷ 100 ∷ [])
     ≡ gatewayOpening (500 ∷ 500 ∷ []) (100 ∷ 100 ∷ []) 12 (fresh 131)
     → ⊥
 unfolding everyRule told gatewayOpening wordsOf fieldWords
-drops-header-differs = apart (λ a. getD (a .left .block) 0 0) _ _ refl
+drops-header-differs = apart (λ a. quarter (getD (a .left .block) 0 0) 1) _ _ refl
 
 -- "no such flow": a refused arrival is told as done, here at flow 2 of two
 abbrev pub refusedIsDone : ℕ → ℕ → ℕ → Lent → Answered
