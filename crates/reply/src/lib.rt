@@ -8,7 +8,7 @@ pub enum Refusal {
     Memory,
     // The record is not well formed.
     Form,
-    // The two lists differ in length, or have 0 or over 64 entries.
+    // The two lists differ in length, or have 0 or over 64 entries, or the header is over 64.
     Lists,
     // The share of this flow is outside 1 to 1,000.
     Share(u32),
