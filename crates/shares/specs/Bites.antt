@@ -146,17 +146,21 @@ pub tied-apart : let s = beginOf fair in (valueIn 0 (takeRule s 1 .reply) ≡ 1)
 unfolding everyRule takeRule
 tied-apart = (refl, refl)
 
--- shares 1 and 999: flow 0 has sent two of its four bytes when flow 1 comes with five packets, and waits at five picks
-abbrev pub tight : Worked
-tight =
+-- flow 0 has sent two of its four packets of one byte when flow 1 comes with five of n bytes, and waits at five picks
+abbrev pub overtaken : List ℕ → ℕ → ℕ → Worked
+overtaken shares n header =
     record {
-      shares = 1 ∷ 999 ∷ [];
-      largest = 1 ∷ 998 ∷ [];
-      header = 0;
+      shares = shares;
+      largest = 1 ∷ n ∷ [];
+      header = header;
       before = arrival 0 1 1 ∷ arrival 0 1 2 ∷ arrival 0 1 3 ∷ arrival 0 1 4 ∷ pick ∷ pick
-          ∷ arrival 1 998 5 ∷ arrival 1 998 6 ∷ arrival 1 998 7 ∷ arrival 1 998 8 ∷ arrival 1 998 9 ∷ [];
+          ∷ arrival 1 n 5 ∷ arrival 1 n 6 ∷ arrival 1 n 7 ∷ arrival 1 n 8 ∷ arrival 1 n 9 ∷ [];
       stretch = replicate 5 pick;
     }
+
+-- with shares 1 and 999, packets of 998 bytes and no header
+abbrev pub tight : Worked
+tight = overtaken (1 ∷ 999 ∷ []) 998 0
 
 -- W is 3,993 and S is 1
 pub tight-shows : Shows tight (stretchOf tight) 0 3993 1 720000 720000
@@ -177,18 +181,9 @@ tight-shows =
 pub two-too-few : boundOf tight (stretchOf tight) 0 2 < 720 * picked (stretchOf tight)
 two-too-few = rw (tight-shows .all, tight-shows .own, tight-shows .cost-is, tight-shows .width-is) (lit< tt)
 
--- a header of 64, shares 50 and 950: flow 0 has sent two of its four packets of one byte when flow 1 comes with five
--- of 1,000, and waits at five picks
+-- the same with shares 50 and 950, packets of 1,000 bytes and a header of 64
 abbrev pub headed : Worked
-headed =
-    record {
-      shares = 50 ∷ 950 ∷ [];
-      largest = 1 ∷ 1000 ∷ [];
-      header = 64;
-      before = arrival 0 1 1 ∷ arrival 0 1 2 ∷ arrival 0 1 3 ∷ arrival 0 1 4 ∷ pick ∷ pick
-          ∷ arrival 1 1000 5 ∷ arrival 1 1000 6 ∷ arrival 1 1000 7 ∷ arrival 1 1000 8 ∷ arrival 1 1000 9 ∷ [];
-      stretch = replicate 5 pick;
-    }
+headed = overtaken (50 ∷ 950 ∷ []) 1000 64
 
 -- W is 4,321, four packets of 1,064 and one of 65, and S is 65
 pub headed-shows : Shows headed (stretchOf headed) 0 4321 65 14400 936000
