@@ -400,19 +400,22 @@ def random_script(seed, index):
 # Calls without a script: an opening has a header, which no script can give.
 
 def random_header(dice):
-    """A header in bytes, one in ten over the 64 that an opening takes."""
-    if dice.chance(10):
-        return dice.one_of([65, 256, 65_536, LARGEST_NUMBER])
+    """A header in bytes that an opening takes."""
     return dice.one_of([0, 1, 12, 12, 64, 64, dice.between(0, 64)])
+
+
+def refused_header(dice):
+    return dice.one_of([65, 65, 256, 65_536, LARGEST_NUMBER])
 
 
 def damaged_header(dice, header):
     """What a record's 16 bits for the header may come to hold; now and then it is no other one."""
-    return dice.one_of([0, 1, 63, 64, 65, 128, 255, 256, 32_768, 65_535, max(header - 1, 0), header + 1])
+    return dice.one_of([0, 1, 12, 63, 64, 65, 128, 255, 256, 32_768, 65_535, header + 1])
 
 
 def random_calls(seed, index):
-    """Calls without an end: "o", shares, largest packets, header; "a", flow, length, handle; "p"."""
+    """Calls without an end: "o", shares, largest packets, header; "a", flow, length, handle; "p".
+    Half of the openings come after one whose header is refused."""
     dice = Dice("calls", seed, index)
     kind = KINDS[dice.one_of(sorted(KINDS))]
     rows = []
@@ -420,6 +423,9 @@ def random_calls(seed, index):
         if letter == "f":
             rows.append(numbers)
         elif letter == "o":
-            yield ("o", [share for share, _ in rows], [largest for _, largest in rows], random_header(dice))
+            table = [share for share, _ in rows], [largest for _, largest in rows]
+            if dice.chance(50):
+                yield ("o", *table, refused_header(dice))
+            yield ("o", *table, random_header(dice))
         else:
             yield (letter, *numbers)
