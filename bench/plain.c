@@ -190,8 +190,8 @@ enum plain_answer plain_opening(const uint32_t *shares, size_t shares_count,
     if (answer != PLAIN_DONE)
         return answer;
 
-    record->flows = (uint16_t)shares_count;
-    record->header = (uint16_t)header;
+    record->flows = (uint32_t)shares_count;
+    record->header = header;
     for (uint32_t f = 0; f < record->flows; f++) {
         record->flow[f].share = (uint16_t)shares[f];
         record->flow[f].largest = (uint16_t)largest[f];

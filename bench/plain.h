@@ -40,11 +40,10 @@ struct plain_flow {
     uint16_t waiting;
 };
 
-/* "It holds the number of flows, the leap width, the clock, the link time, and for each flow: .." and the header, in
- * bytes */
+/* "It holds the number of flows, the leap width, the clock, the link time, and for each flow: .." */
 struct plain_record {
-    uint16_t flows;
-    uint16_t header;
+    uint32_t flows;
+    uint32_t header; /* bytes */
     uint32_t leap;
     uint64_t clock;
     uint64_t link;

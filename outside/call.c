@@ -192,9 +192,9 @@ bool call_agrees(const struct call *call, struct state *state, struct outcome *o
     same = loans_hold(call, state, taken ? reply_next : reply_given);
     if (got == expected && same)
         return true;
-    printf("  given: flows %" PRIu16 ", header %" PRIu16 ", leap width %" PRIu32 ", clock %" PRIu64 ", link time %"
-           PRIu64 "\n", given.record.flows, given.record.header, given.record.leap, given.record.clock,
-           given.record.link);
+    printf("  given: flows %" PRIu32 ", header %" PRIu32 ", leap width %" PRIu32, given.record.flows,
+           given.record.header, given.record.leap);
+    printf(", clock %" PRIu64 ", link time %" PRIu64 "\n", given.record.clock, given.record.link);
     show(call);
     return false;
 }

@@ -4,8 +4,8 @@
 
 LIBRARY is the library as a shared object. After each call the answer, every word of the record and of the reply and
 every place of both memories are compared. One arrival or pick in ten is made on a record whose header is damaged, half
-of them with a leap width that fits it again. Stops at the first difference. In a thousand calls or more, a header that
-an opening refuses, a damaged one that is refused and a leap with a header have to come up.
+of them with a leap width that fits it again. Stops at the first difference. In ten thousand calls or more, a header
+that an opening refuses, a damaged one that is refused and a leap with a header have to come up.
 """
 
 import ctypes
@@ -27,6 +27,7 @@ BLOCK = struct.Struct("<HHIQQ64Q64H64H64H64H")
 REPLY_WORDS, PLACES, IDLE = 6, 4096, 100
 CALLS_OF_ONE_KIND = 200
 PERCENT_DAMAGED = 10
+CALLS_ENOUGH = 10_000
 COUNTED = ["refused headers", "refused damaged headers", "leaps with a header"]
 
 
@@ -136,12 +137,10 @@ def main():
     library.uplink_opening.restype = ctypes.c_uint64
     library.uplink_arrival.restype = library.uplink_pick.restype = ctypes.c_uint32
     counts = Counter()
-    for index in itertools.count():
-        if counts["calls"] == calls:
-            break
-        run_kind(library, seed, index, min(CALLS_OF_ONE_KIND, calls - counts["calls"]), counts)
+    for start in range(0, calls, CALLS_OF_ONE_KIND):
+        run_kind(library, seed, start, min(CALLS_OF_ONE_KIND, calls - start), counts)
     print(", ".join(f"{counts[thing]} {thing}" for thing in COUNTED))
-    if calls >= 1000 and min(counts[thing] for thing in COUNTED) == 0:
+    if calls >= CALLS_ENOUGH and min(counts[thing] for thing in COUNTED) == 0:
         sys.exit("one of these did not come up")
     print(f"{calls} calls compared with the second program, all agree; seed {seed}")
 

@@ -157,8 +157,8 @@ void make_built(struct state *state)
 
     memset(state, 0, sizeof *state);
     make_table(shares, largest, flows);
-    record->flows = (uint16_t)flows;
-    record->header = (uint16_t)make_header();
+    record->flows = flows;
+    record->header = make_header();
     for (uint32_t f = 0; f < flows; f++) {
         record->flow[f].share = (uint16_t)shares[f];
         record->flow[f].largest = (uint16_t)largest[f];
@@ -221,7 +221,7 @@ static void refit(struct plain_record *record)
 static void damage_header(struct plain_record *record)
 {
     const uint16_t headers[] = {0, 1, 12, 63, 64, 65, 66, 128, 255, 256, 32768, UINT16_MAX,
-                                record->header - 1, record->header + 1};
+                                (uint16_t)(record->header - 1), (uint16_t)(record->header + 1)};
 
     record->header = ONE_OF(headers);
     refit(record);
@@ -229,7 +229,8 @@ static void damage_header(struct plain_record *record)
 
 static void damage_head(struct plain_record *record)
 {
-    const uint16_t flows[] = {0, 1, 64, 65, 128, 256, 32768, UINT16_MAX, record->flows - 1, record->flows + 1};
+    const uint16_t flows[] = {0, 1, 64, 65, 128, 256, 32768, UINT16_MAX, (uint16_t)(record->flows - 1),
+                              (uint16_t)(record->flows + 1)};
     const uint32_t leaps[] = {record->leap - 1, record->leap + 1, 0, UINT32_MAX, (uint32_t)dice()};
     const uint64_t clocks[] = {TWO62 - 1, TWO62, TWO62 + 1, CLOCK_END - 1, CLOCK_END, CLOCK_END + 1, TWO62 * 2,
                                UINT64_MAX - 1, UINT64_MAX, record->link, record->link - 1, record->clock - 1,

@@ -15,7 +15,7 @@ struct state {
 
 /* The block's layout: word 0 is flows + 2^16 header + 2^32 leap width, word 1 the clock, word 2 the link time; words 3
  * to 66 are the tags; then 16 words each for shares, largest packets, firsts and numbers waiting, four flows to a
- * word. */
+ * word. Flows and header are below 2^16 in every record here. */
 void to_words(const struct plain_record *record, uint64_t words[UPLINK_RECORD_WORDS]);
 void from_words(struct plain_record *record, const uint64_t words[UPLINK_RECORD_WORDS]);
 
