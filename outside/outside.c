@@ -1,4 +1,4 @@
-/* The library's four calls, compared with the plain C implementation of document 01.
+/* The library's four calls, compared with the plain C implementation of documents 01 and 02.
  *
  *     outside CALLS SEED
  *

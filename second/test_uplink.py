@@ -47,7 +47,7 @@ class Cost(Document):
             ticks = uplink.cost(share)
             self.assertTrue((ticks - 1) * share < 720_000 <= ticks * share)
 
-    def test_leap_width_is_at_most_1_080_000_000(self):
+    def test_leap_width_without_a_header_is_at_most_1_080_000_000(self):
         record, _ = opened((1, 1500), (999, 1500))
         self.assertEqual(1_080_000_000, record.leap_width)
 
