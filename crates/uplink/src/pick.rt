@@ -95,25 +95,18 @@ impl Record {
             } else {
                 let flow = lead.flow;
                 let tag = lead.tag;
+                let header = self.header;
                 let leap = tags::leap(self.clock, self.width, tag);
                 let first = queues::go_on(&mut self.queues.first, flow);
                 let waiting = queues::leave(&mut self.queues.waiting, flow);
-                let gone = advance(
-                    self.header,
-                    flow,
-                    first,
-                    leap.clock,
-                    self.link,
-                    lengths,
-                    handles,
-                );
+                let gone = advance(header, flow, first, leap.clock, self.link, lengths, handles);
                 let clock = gone.clock;
                 let link = gone.link;
                 self.clock = clock;
                 self.link = link;
                 if 1 < waiting {
                     let cost = cost::cost_at(&table, queues::field(&self.queues.share, flow));
-                    let next = tags::front_tag(tag, clock, self.header, gone.behind, cost);
+                    let next = tags::front_tag(tag, clock, header, gone.behind, cost);
                     tags::put_tag(&mut self.tags.0, flow, next);
                 }
                 reply = PickReply::Packet {
