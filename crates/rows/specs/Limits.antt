@@ -202,8 +202,7 @@ limits =
     ∷ shown (refusesOpening [] [] 3 0) refl
     ∷ shown (refusesOpening (replicate 65 15) (replicate 65 100) 3 0) refl
     ∷ shown (refusesOpening (pair 500 500) (only 100) 3 0) refl
-    -- 02 a): "3 also when the header is over 64": 0, 64, 65 and the largest of 32 bits
-    ∷ shown (opensWith 0 (only 500) (only 100) 144000) refl
+    -- 02 a): "3 also when the header is over 64": 64, 65 and the largest of 32 bits; the others here open with 0
     ∷ shown (opensWith 64 (only 500) (only 100) 236160) refl
     ∷ shown (refusesWith 65 (only 500) (only 100) 3 0) refl
     ∷ shown (refusesWith 4294967295 (only 500) (only 100) 3 0) refl

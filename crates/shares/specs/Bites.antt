@@ -10,8 +10,8 @@ use Prim.Native.Nat.{ℕ, zero, suc, _+_, _*_, _≤_, _<_}
 use native.Mathlib.Omega.{arith}
 use lib.Dec.{eqb, ltb, lit<, lit≤}
 use lib.ListN.{replicate}
-use borrow.Author.Tests.{ltb-true}
-use Rattle.below.specs.Truth.{true-false, both-true}
+use borrow.Author.Tests.{ltb-true, eqb-true}
+use Rattle.below.specs.Truth.{true-false, both-true, four-true}
 use Rattle.reply.specs.Reply.{done}
 use Rattle.uplink.specs.Flow.{flowCost}
 use Rattle.uplink.specs.Record.{flowAt, tagOf, waitingOf}
@@ -71,12 +71,6 @@ plain-of (opening shares largest header ∷ calls) e = true-false (sym e)
 plain-of (arrival flow length handle ∷ calls) e = (tt, plain-of calls e)
 plain-of (pick ∷ calls) e = (tt, plain-of calls e)
 
--- where the opening is accepted and no other is before the stretch, the stretch begins in a carried state
-begin-carried : (w : Worked) → openingIn start (w .shares) (w .largest) (w .header) .reply ≡ done []
-    → plainAll (w .before) ≡ true → Carried (beginOf w)
-begin-carried w accepted plain =
-    rule-carried (opened start (w .shares) (w .largest) (w .header) accepted) (w .before) (plain-of (w .before) plain)
-
 -- flow f waits at every call, as a test to be computed
 abbrev waitsAll : ℕ → State → List Event → Bool
 waitsAll f s [] = true
@@ -87,6 +81,40 @@ waits-of : (f : ℕ) (s : State) (xs : List Event) → waitsAll f s xs ≡ true 
 waits-of f s [] e = tt
 waits-of f s (x ∷ xs) e = let both = both-true (ltb 0 (waitingOf (s .held) f)) _ e in
     (λ _. ltb-true 0 _ (both .0), waits-of f (x .outcome .state) xs (both .1))
+
+-- where the opening is accepted and no other is before the stretch, the stretch begins in a carried state
+begin-carried : (w : Worked) → openingIn start (w .shares) (w .largest) (w .header) .reply ≡ done []
+    → plainAll (w .before) ≡ true → Carried (beginOf w)
+begin-carried w accepted plain =
+    rule-carried (opened start (w .shares) (w .largest) (w .header) accepted) (w .before) (plain-of (w .before) plain)
+
+-- what a run of the stretch shows of flow f, as a test to be computed
+abbrev showsAll : Worked → List Event → ℕ → ℕ → ℕ → ℕ → ℕ → Bool
+showsAll w run f W S cost width =
+    (plainAll (w .before) && plainAll (w .stretch) && ltb f (beginOf w .held .flows) && waitsAll f (beginOf w) run)
+    && (eqb (picked run) W && eqb (pickedOf f run) S && eqb (flowCost (flowAt (beginOf w .held) f)) cost
+    && eqb (beginOf w .held .width) width)
+
+-- and what it says
+shows-of : (w : Worked) (run : List Event) (f W S cost width : ℕ)
+    → openingIn start (w .shares) (w .largest) (w .header) .reply ≡ done [] → showsAll w run f W S cost width ≡ true
+    → Shows w run f W S cost width
+shows-of w run f W S cost width accepted e =
+    let asked = plainAll (w .before) && plainAll (w .stretch) && ltb f (beginOf w .held .flows)
+    && waitsAll f (beginOf w) run in
+    let both = both-true asked _ e in
+    let asks = four-true (plainAll (w .before)) (plainAll (w .stretch)) (ltb f (beginOf w .held .flows)) _ (both .0) in
+    let figures = four-true (eqb (picked run) W) (eqb (pickedOf f run) S) _ _ (both .1) in
+    record {
+      carried = begin-carried w accepted (asks .0);
+      plain = plain-of (w .stretch) (asks .1);
+      counts = ltb-true _ _ (asks .2);
+      waits = waits-of f (beginOf w) run (asks .3);
+      all = eqb-true _ _ (figures .0);
+      own = eqb-true _ _ (figures .1);
+      cost-is = eqb-true _ _ (figures .2);
+      width-is = eqb-true _ _ (figures .3);
+    }
 
 -- demand 3 speaks of what document 01's rule makes of a worked run
 worked-holds : (w : Worked) {f W S cost width : ℕ} → Shows w (stretchOf w) f W S cost width
@@ -108,17 +136,7 @@ fair =
 -- W is 200 and S is 100
 pub fair-shows : Shows fair (stretchOf fair) 0 200 100 1440 144000
 unfolding everyRule
-fair-shows =
-    record {
-      carried = begin-carried fair refl refl;
-      plain = plain-of (fair .stretch) refl;
-      counts = lit< tt;
-      waits = waits-of 0 (beginOf fair) (stretchOf fair) refl;
-      all = refl;
-      own = refl;
-      cost-is = refl;
-      width-is = refl;
-    }
+fair-shows = shows-of fair (stretchOf fair) 0 200 100 1440 144000 refl refl
 
 -- and demand 3 speaks of it
 pub fair-holds : 720 * picked (stretchOf fair) ≤ boundOf fair (stretchOf fair) 0 3
@@ -165,17 +183,7 @@ tight = overtaken (1 ∷ 999 ∷ []) 998 0
 -- W is 3,993 and S is 1
 pub tight-shows : Shows tight (stretchOf tight) 0 3993 1 720000 720000
 unfolding everyRule
-tight-shows =
-    record {
-      carried = begin-carried tight refl refl;
-      plain = plain-of (tight .stretch) refl;
-      counts = lit< tt;
-      waits = waits-of 0 (beginOf tight) (stretchOf tight) refl;
-      all = refl;
-      own = refl;
-      cost-is = refl;
-      width-is = refl;
-    }
+tight-shows = shows-of tight (stretchOf tight) 0 3993 1 720000 720000 refl refl
 
 -- 2Δ would be too few
 pub two-too-few : boundOf tight (stretchOf tight) 0 2 < 720 * picked (stretchOf tight)
@@ -188,17 +196,7 @@ headed = overtaken (50 ∷ 950 ∷ []) 1000 64
 -- W is 4,321, four packets of 1,064 and one of 65, and S is 65
 pub headed-shows : Shows headed (stretchOf headed) 0 4321 65 14400 936000
 unfolding everyRule
-headed-shows =
-    record {
-      carried = begin-carried headed refl refl;
-      plain = plain-of (headed .stretch) refl;
-      counts = lit< tt;
-      waits = waits-of 0 (beginOf headed) (stretchOf headed) refl;
-      all = refl;
-      own = refl;
-      cost-is = refl;
-      width-is = refl;
-    }
+headed-shows = shows-of headed (stretchOf headed) 0 4321 65 14400 936000 refl refl
 
 -- demand 3 speaks of it
 pub headed-holds : 720 * picked (stretchOf headed) ≤ boundOf headed (stretchOf headed) 0 3
@@ -258,17 +256,7 @@ lazyStretch = lazyRun false (beginOf lazy) (lazy .stretch)
 -- flow 0 waits at every pick, W is 900 and S is 100
 pub lazy-shows : Shows lazy lazyStretch 0 900 100 1440 144000
 unfolding everyRule
-lazy-shows =
-    record {
-      carried = fair-shows .carried;
-      plain = plain-of (lazy .stretch) refl;
-      counts = lit< tt;
-      waits = waits-of 0 (beginOf lazy) lazyStretch refl;
-      all = refl;
-      own = refl;
-      cost-is = refl;
-      width-is = refl;
-    }
+lazy-shows = shows-of lazy lazyStretch 0 900 100 1440 144000 refl refl
 
 -- the stand-in breaks demand 3
 pub lazy-breaks : boundOf lazy lazyStretch 0 3 < 720 * picked lazyStretch

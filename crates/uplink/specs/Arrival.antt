@@ -16,7 +16,7 @@ use Rattle.uplink.specs.Form.{checked}
 abbrev pub lastPlace : State → ℕ → ℕ
 lastPlace s f = let w = flowAt (s .held) f .queue in placeOf f (w .first) (w .waiting)
 
--- the packet of length n is taken at flow f
+-- the packet of length n is taken at flow f: stored by its length, tagged by its charge (02 a)
 unfoldable pub storeRule : State → ℕ → ℕ → ℕ → Outcome
 storeRule s f n handle =
     let r = s .held in

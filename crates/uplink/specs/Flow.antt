@@ -30,16 +30,17 @@ flowCost w = costTo (w .queue)
 unfoldable pub spareFlow : Flow → Bool
 spareFlow w = eqb (w .tag .0) 0 && spareQueue (w .queue)
 
--- Arrival: "If the flow was empty, its tag becomes .. Otherwise no tag changes."
+-- Arrival: "If the flow was empty, its tag becomes .. Otherwise no tag changes.", by the packet's charge
 unfoldable pub joinedFlow : Flow → ServerTicks → ℕ → ℕ → Flow
 joinedFlow w clock cost charge =
     flowOf (cond (eqb (w .queue .waiting) 0) (frontTag (w .tag .0) (clock .0) cost charge) (w .tag .0))
     (joined (w .queue))
 
--- Pick, step 5: "If the flow still waits, its tag becomes .. Otherwise its tag stays T."
+-- Pick, step 5: "If the flow still waits, its tag becomes .. Otherwise its tag stays T.", by the next packet's charge
 unfoldable pub servedFlow : Flow → ServerTicks → ℕ → ℕ → Flow
-servedFlow w clock cost next =
-    flowOf (cond (ltb 1 (w .queue .waiting)) (frontTag (w .tag .0) (clock .0) cost next) (w .tag .0)) (left (w .queue))
+servedFlow w clock cost charge =
+    flowOf (cond (ltb 1 (w .queue .waiting)) (frontTag (w .tag .0) (clock .0) cost charge) (w .tag .0))
+    (left (w .queue))
 
 -- Pick, step 1: all tags become 0
 abbrev pub untagged : Flow → Flow
