@@ -1,12 +1,11 @@
 -- From the record and the memories to the table and the view of the share argument.
 -- Assumes nothing.
 use mathlib.Core.Path.{_≡_}
-use mathlib.Core.Bool.{true, cond}
+use mathlib.Core.Bool.{true}
 use Prim.Native.Nat.{ℕ, _≤_, _<_}
 use native.Mathlib.Nat.{mul-le-mul-right}
 use native.Mathlib.Decide.{ℕ-discrete}
 use native.Mathlib.Omega.{arith}
-use lib.Dec.{eqb}
 use lib.ListN.{length}
 use borrow.Author.Tests.{eq-eqb, ne-eqb}
 use Rattle.below.specs.Below.{mostBelow-least}
@@ -24,6 +23,7 @@ use Rattle.uplink.specs.State.{State}
 use Rattle.uplink.specs.Formed.{Formed}
 use Rattle.uplink.specs.Pick.{frontCharge}
 use Rattle.shares.specs.Keep.{Table, Sound, View, Good, in-time}
+use Rattle.shares.specs.Runs.{waitingCharge}
 
 -- a table: the costs are those of the shares
 abbrev pub tableWith : ℕ → ℕ → (ℕ → ℕ) → Table
@@ -38,10 +38,6 @@ clockOf s = s .held .clock .0
 
 abbrev pub tableOf : State → Table
 tableOf s = tableWith (s .held .flows) (s .held .width) (λ f. flowOf s f .queue .share)
-
--- the charge of flow f's front packet, and 0 where nothing waits
-unfoldable pub waitingCharge : State → ℕ → ℕ
-waitingCharge s f = cond (eqb (flowOf s f .queue .waiting) 0) 0 (frontCharge s f)
 
 -- each flow's tag and the charge that waits in front
 abbrev pub viewOf : State → View

@@ -2,7 +2,7 @@
 -- Assumes nothing.
 use mathlib.Core.Path.{_≡_, refl, sym, ap, _∙_}
 use mathlib.Core.Bool.{Bool, true, false, cond}
-use Prim.Native.Nat.{ℕ, _+_, _*_, _≤_, _<_}
+use Prim.Native.Nat.{ℕ, _+_, _-_, _*_, max, _≤_, _<_}
 use native.Mathlib.Omega.{arith}
 use lib.Dec.{ltb}
 use borrow.Author.Tests.{ltb-true, ltb-false, eq-eqb}
@@ -10,11 +10,10 @@ use Rattle.below.specs.Truth.{both-of}
 use Rattle.reply.specs.Reply.{idle, refused, replyNumber}
 use Rattle.reply.specs.Replies.{refused-done, idle-done, idle-refused}
 use Rattle.queues.specs.Places.{lent}
-use Rattle.queues.specs.Laws.{join-cases}
+use Rattle.queues.specs.Laws.{join-cases, queue-at}
 use Rattle.tags.specs.Ticks.{leaps, leapClock}
 use Rattle.tags.specs.Choice.{Smallest}
 use Rattle.tags.specs.Chosen.{leads}
-use Rattle.uplink.specs.Flow.{flowCost}
 use Rattle.uplink.specs.Record.{tagOf, waitingOf, put}
 use Rattle.uplink.specs.State.{State, Outcome, demand, kept, unlessRefused}
 use Rattle.uplink.specs.Form.{checked}
@@ -22,14 +21,15 @@ use Rattle.uplink.specs.Formed.{formed-in}
 use Rattle.uplink.specs.Arrival.{storeRule, joinRule}
 use Rattle.uplink.specs.Pick.{clockLimit, serveRule, idleRule}
 use Rattle.uplink.specs.Calls.{Call, opening, arrival, pick}
-use Rattle.shares.specs.Start.{MovesOn}
+use Rattle.shares.specs.Start.{behind, MovesAt, same-moves}
+use Rattle.shares.specs.Keep.{Table}
 use Rattle.shares.specs.Bridge.{flowOf, clockOf, tableOf, viewOf, IdleTags, Zeroed, Steady}
-use Rattle.shares.specs.Store.{Joins, store-steady, store-table, store-idle, store-start}
+use Rattle.shares.specs.Store.{Joins, store-steady, store-table, store-idle, store-moves}
 use Rattle.shares.specs.Serve.{serve-in-time, serve-steady, serve-table, serve-idle, serve-clock-on}
-use Rattle.shares.specs.Serve.{serve-moves}
+use Rattle.shares.specs.Serve.{served-moves, served-before, served-turn}
 use Rattle.shares.specs.Idle.{Nobody, idle-steady, idle-zeroed, idle-table}
 use Rattle.shares.specs.Runs.{somethingWaits, takeRule, Taken, Gives, Plain, chargeIn, chargeFor, valueIn}
-use Rattle.shares.specs.Runs.{tagAfter}
+use Rattle.shares.specs.Runs.{tagAfter, pickIn}
 use Rattle.shares.specs.Opened.{Late, opening-late}
 
 -- a call is refused: with no 1 or 2, and a pick with 10 alone, where something waits and the clock is at its limit
@@ -93,12 +93,18 @@ module _ (s : State) (S : Steady s) where
       (ways .stores f n handle))
   call-ways pick o plain gives P ways = pick-ways P o gives ways
 
--- what a reply has to do with flow f of this cost:
--- the clock goes on by what was picked, and the flow's start by what was picked of it
-pub record Counts (f cost : ℕ) (s : State) (o : Outcome) : Type 0 where
-  pub ahead : clockOf (o .state) ≤ viewOf (o .state) .tag f
+-- what a call has to do with the flows of table X, where flow f waits if it is a pick
+pub record Counts (X : Table) (f : ℕ) (s : State) (o : Outcome) : Type 0 where
+  -- the clock goes on by what was picked, and does not pass flow f's tag
   pub clock : clockOf s + 720 * chargeIn o ≤ clockOf (o .state)
-  pub start : MovesOn f cost (chargeFor f o) (viewOf s) (viewOf (o .state))
+  pub before : clockOf (o .state) ≤ max (viewOf s .tag f) (clockOf s)
+  -- each flow moves by what was picked of it
+  pub moves : (g : ℕ) → MovesAt (X .cost) g (chargeFor g o) (clockOf s) (viewOf s) (clockOf (o .state)) (viewOf (o .state))
+  -- and is picked only where it is not behind flow f: by no more than its start is behind flow f's tag
+  pub turn : (g : ℕ) → chargeFor g o * X .cost g
+      ≤ behind (viewOf s .tag f) (X .cost g) (clockOf s) (viewOf s .tag g) (viewOf s .charge g)
+  -- a pick that was not refused charges a byte or more
+  pub byte : pickIn (o .reply) ≤ chargeIn o
 
 -- what a reply has to do with the clocks: both go on by what was picked, and the server clock by Δ where it leapt
 pub record Clocks (s : State) (o : Outcome) : Type 0 where
@@ -127,30 +133,48 @@ module _ (s : State) (S : Steady s) (call : Call) (o : Outcome) (plain : Plain c
         serves = λ _ f small below. (serve-steady s f S small below, serve-table s f S small);
       }
 
-  -- what the reply says of flow f, where it is not behind the clock and waits at a pick
-  pub call-counts : (f : ℕ) → f < s .held .flows → clockOf s ≤ viewOf s .tag f
-      → (call ≡ pick → 0 < flowOf s f .queue .waiting) → Counts f (flowCost (flowOf s f)) s o
+  -- what the call has to do with the flows, where flow f waits if it is a pick
+  pub call-counts : (f : ℕ) → f < s .held .flows → (call ≡ pick → 0 < flowOf s f .queue .waiting)
+      → Counts (tableOf s) f s o
   unfolding storeRule serveRule idleRule put
-  call-counts f l ahead waits = call-ways s S call o plain gives (Counts f (flowCost (flowOf s f)) s)
+  call-counts f l waits = call-ways s S call o plain gives (Counts (tableOf s) f s)
       record {
-        refuses = λ number _. omega arith;
-        stores = λ g n handle joins. let stays = store-start s g n handle S joins f ahead in
-            record { ahead = stays .0; clock = omega arith; start = stays .1 };
+        refuses = λ number _. record {
+          clock = omega arith;
+          before = omega arith;
+          moves = same-moves (tableOf s .cost) (clockOf s) refl;
+          turn = λ g. omega arith;
+          byte = omega arith;
+        };
+        stores = λ i n handle joins. record {
+          clock = omega arith;
+          before = omega arith;
+          moves = store-moves s i n handle S joins;
+          turn = λ g. omega arith;
+          byte = omega arith;
+        };
         rests = λ e nobody. absurd (omega (arith, waits e, nobody f l));
-        serves = λ e g small _. let moves = serve-moves s g S small f l (waits e) in
-            record { ahead = moves .0; clock = serve-clock-on s g S small; start = moves .1 };
+        serves = λ e i small _. record {
+          clock = serve-clock-on s i S small;
+          before = omega (arith, served-before s i S small f l (waits e));
+          moves = served-moves s i S small;
+          turn = served-turn s i S small f l (waits e);
+          byte = omega (
+            arith,
+            queue-at i (s .lengths) (flowOf s i .queue) (S .form .each i (small .counts) .queue) 0 (small .waits),
+          );
+        };
       }
 
-  -- only a pick's reply says that something was picked
-  pub call-silent : (call ≡ pick → ⊥) → (f : ℕ) → (chargeIn o ≡ 0) × (chargeFor f o ≡ 0)
-  unfolding storeRule
-  call-silent other f =
-      call-ways s S call o plain gives (λ o. (chargeIn o ≡ 0) × (chargeFor f o ≡ 0))
+  -- and that it is not Idle
+  pub call-busy : (f : ℕ) → f < s .held .flows → (call ≡ pick → 0 < flowOf s f .queue .waiting) → o .reply ≡ idle → ⊥
+  unfolding storeRule serveRule idleRule
+  call-busy f l waits = call-ways s S call o plain gives (λ o. o .reply ≡ idle → ⊥)
       record {
-        refuses = λ number _. (refl, refl);
-        stores = λ g n handle joins. (refl, refl);
-        rests = λ e _. absurd (other e);
-        serves = λ e _ _ _. absurd (other e);
+        refuses = λ number _ e. idle-refused (sym e);
+        stores = λ i n handle joins e. idle-done (sym e);
+        rests = λ e nobody _. absurd (omega (arith, waits e, nobody f l));
+        serves = λ _ i small below e. idle-done (sym e);
       }
 
   -- no call but an opening is refused with 1 or 2

@@ -43,6 +43,9 @@ pub record Good (X : Table) (c : ℕ) (F : View) : Type 0 where
   pub near : (j : ℕ) → j < X .size → F .tag j ≤ c + 2 * X .width + F .charge j * X .cost j
   -- no packet is charged more than Δ
   pub fits : (j : ℕ) → j < X .size → F .charge j * X .cost j ≤ X .width
+  -- no start is more than 2Δ ahead of the start of a flow that waits
+  pub level : (a b : ℕ) → a < X .size → b < X .size → 0 < F .charge b
+      → max (F .tag a) c + F .charge b * X .cost b ≤ F .tag b + 2 * X .width + F .charge a * X .cost a
 
 -- only flow i changes: its tag becomes T and its front packet's charge n
 pub record Change (i T n : ℕ) (F G : View) : Type 0 where
@@ -76,38 +79,6 @@ change-again h k =
       charge-else = λ j q. rw (h .charge-else j q) (k .charge-else j q);
     }
 
--- where each flow has no more than its room, so have all
-backlog-low : (X : Table) (c d : ℕ) (F : View) (t : ℕ)
-    → ((j : ℕ) → j < X .size → own c t (X .share j) (F .tag j) (F .charge j) ≤ X .share j * (t - d))
-    → backlogBy X c F t ≤ room X (t - d)
-backlog-low X c d F t each = rw (← (sum-times (X .share) (X .size) (t - d))) (sum-le (X .size) each)
-
--- front: a packet comes to the front of flow i, where nothing waits
-pub front-good : {X : Table} → Sound X → (c i n : ℕ) {F G : View} → i < X .size → Good X c F → F .charge i ≡ 0
-    → n * X .cost i ≤ X .width → Change i (max (F .tag i) c + n * X .cost i) n F G → Good X c G
-front-good {X} sound c i n {F} {G} l g idle fits h =
-    record {
-      backlog = λ t. le-trans (sum-le (X .size) (changed h
-          (λ j T m. j < X .size → own c t (X .share j) T m ≤ own c t (X .share j) (F .tag j) (F .charge j))
-          (λ _. rw idle (own-front c t (X .share i) (F .tag i) n (X .cost i) (sound .covers i l)))
-          (λ j _. le-refl _))) (g .backlog t);
-      near = changed h (λ j T m. j < X .size → T ≤ c + 2 * X .width + m * X .cost j)
-          (λ _. omega (arith, rw idle at (g .near i l))) (g .near);
-      fits = changed h (λ j T m. j < X .size → m * X .cost j ≤ X .width) (λ _. fits) (g .fits);
-    }
-
--- leap: every tag that waits is above c + 2Δ
-pub leap-good : {X : Table} → Sound X → (c : ℕ) {F : View} → Good X c F
-    → ((j : ℕ) → j < X .size → 0 < F .charge j → c + 2 * X .width < F .tag j) → Good X (c + X .width) F
-leap-good {X} sound c {F} g far =
-    record {
-      backlog = λ t. backlog-low X (c + X .width) (c + X .width) F t λ j l.
-          own-far c t (X .share j) (F .tag j) (F .charge j) (X .cost j) (X .width)
-          (sound .covers j l) (g .fits j l) (far j l);
-      near = λ j l. omega (arith, g .near j l);
-      fits = g .fits;
-    }
-
 -- a packet that waits will have been sent before the clock is at its tag
 pub in-time : {X : Table} → Sound X → (c i : ℕ) {F : View} → Good X c F → i < X .size → 0 < F .charge i
     → c + 720 * F .charge i ≤ F .tag i
@@ -120,6 +91,61 @@ in-time {X} sound c i {F} g l waits =
       g .backlog (F .tag i),
       mul-le-mul-right (F .tag i - c) (sound .total),
     )
+
+-- the start of a flow that does not wait is the larger of its tag and the clock: it too has none more than 2Δ ahead
+pub level-all : {X : Table} (c : ℕ) {F : View} → Good X c F → (a b : ℕ) → a < X .size → b < X .size
+    → max (F .tag a) c + F .charge b * X .cost b ≤ max (F .tag b) c + 2 * X .width + F .charge a * X .cost a
+level-all {X} c {F} g a b la lb = elim (decLe 1 (F .charge b))
+    as (λ _. max (F .tag a) c + F .charge b * X .cost b ≤ max (F .tag b) c + 2 * X .width + F .charge a * X .cost a) [
+      | yes w ↦ omega (arith, g .level a b la lb w)
+      | no w ↦ let none : F .charge b ≡ 0 = omega arith in rw none (omega (arith, g .near a la))
+    ]
+
+-- where each flow has no more than its room, so have all
+backlog-low : (X : Table) (c d : ℕ) (F : View) (t : ℕ)
+    → ((j : ℕ) → j < X .size → own c t (X .share j) (F .tag j) (F .charge j) ≤ X .share j * (t - d))
+    → backlogBy X c F t ≤ room X (t - d)
+backlog-low X c d F t each = rw (← (sum-times (X .share) (X .size) (t - d))) (sum-le (X .size) each)
+
+module _ {X : Table} (sound : Sound X) (c i n : ℕ) {F G : View} (l : i < X .size) (g : Good X c F)
+    (idle : F .charge i ≡ 0) (h : Change i (max (F .tag i) c + n * X .cost i) n F G) where
+  -- a packet that comes to the front moves no start
+  front-start : (a : ℕ) → max (G .tag a) c + F .charge a * X .cost a ≡ max (F .tag a) c + G .charge a * X .cost a
+  front-start = changed h (λ a T m. max T c + F .charge a * X .cost a ≡ max (F .tag a) c + m * X .cost a)
+      (rw idle (omega arith)) (λ a. refl)
+
+  -- and no tag that waits is below the clock
+  front-ahead : (b : ℕ) → b < X .size → 0 < G .charge b → c ≤ G .tag b
+  front-ahead = changed h (λ b T m. b < X .size → 0 < m → c ≤ T) (λ _ _. omega arith)
+      (λ b m w. omega (arith, in-time sound c b g m w))
+
+  -- front: a packet comes to the front of flow i, where nothing waits
+  pub front-good : n * X .cost i ≤ X .width → Good X c G
+  front-good fits =
+      record {
+        backlog = λ t. le-trans (sum-le (X .size) (changed h
+            (λ j T m. j < X .size → own c t (X .share j) T m ≤ own c t (X .share j) (F .tag j) (F .charge j))
+            (λ _. rw idle (own-front c t (X .share i) (F .tag i) n (X .cost i) (sound .covers i l)))
+            (λ j _. le-refl _))) (g .backlog t);
+        near = changed h (λ j T m. j < X .size → T ≤ c + 2 * X .width + m * X .cost j)
+            (λ _. omega (arith, rw idle at (g .near i l))) (g .near);
+        fits = changed h (λ j T m. j < X .size → m * X .cost j ≤ X .width) (λ _. fits) (g .fits);
+        level = λ a b la lb w.
+            omega (arith, level-all c g a b la lb, front-start a, front-start b, front-ahead b lb w);
+      }
+
+-- leap: every tag that waits is above c + 2Δ
+pub leap-good : {X : Table} → Sound X → (c : ℕ) {F : View} → Good X c F
+    → ((j : ℕ) → j < X .size → 0 < F .charge j → c + 2 * X .width < F .tag j) → Good X (c + X .width) F
+leap-good {X} sound c {F} g far =
+    record {
+      backlog = λ t. backlog-low X (c + X .width) (c + X .width) F t λ j l.
+          own-far c t (X .share j) (F .tag j) (F .charge j) (X .cost j) (X .width)
+          (sound .covers j l) (g .fits j l) (far j l);
+      near = λ j l. omega (arith, g .near j l);
+      fits = g .fits;
+      level = λ a b la lb w. omega (arith, g .level a b la lb w, far b lb w, g .fits b lb);
+    }
 
 module _ {X : Table} (sound : Sound X) (c i : ℕ) {F G : View} (l : i < X .size) (g : Good X c F)
     (h : Change i (F .tag i) 0 F G) where
@@ -162,16 +188,31 @@ module _ {X : Table} (sound : Sound X) (c i : ℕ) {F G : View} (l : i < X .size
       (λ _. own-low after t (X .share i) (F .tag i) 0 λ _. p)
       λ j b. own-low after t (X .share j) (F .tag j) (F .charge j) λ w. omega (arith, least j b w))
 
+  -- the served tag and the clock after it are at most Δ ahead of the start of a flow that waits
+  served-behind : 0 < F .charge i → (b : ℕ) → F .tag i ≤ F .tag b → F .charge b * X .cost b ≤ X .width
+      → max (F .tag i) after + F .charge b * X .cost b ≤ F .tag b + X .width
+  served-behind waits b least fits = omega (arith, in-time sound c i g l waits)
+
   -- serve: flow i has the smallest tag that waits, and its packet goes; the clock goes on by 720 times its charge
-  pub serve-good : ((j : ℕ) → j < X .size → 0 < F .charge j → F .tag i ≤ F .tag j) → F .tag i ≤ c + 2 * X .width
-      → Good X (c + 720 * F .charge i) G
-  serve-good least high =
+  pub serve-good : 0 < F .charge i → ((j : ℕ) → j < X .size → 0 < F .charge j → F .tag i ≤ F .tag j)
+      → F .tag i ≤ c + 2 * X .width → Good X (c + 720 * F .charge i) G
+  serve-good waits least high =
       record {
         backlog = λ t. elim (decLe (F .tag i) t) as (λ _. backlogBy X after G t ≤ room X (t - after))
             [ yes p ↦ served-late t p | no p ↦ served-early t (omega arith) least ];
         near = changed h (λ j T m. j < X .size → T ≤ after + 2 * X .width + m * X .cost j)
             (λ _. omega arith) (λ j b. omega (arith, g .near j b));
         fits = changed h (λ j T m. j < X .size → m * X .cost j ≤ X .width) (λ _. omega arith) (g .fits);
+        level = λ a b la lb w. changed h
+            (λ b U k. 0 < k → b < X .size
+            → max (G .tag a) after + k * X .cost b ≤ U + 2 * X .width + G .charge a * X .cost a)
+            (λ w _. absurd (omega arith))
+            (λ b w lb. let behind = served-behind waits b (least b lb w) (g .fits b lb) in changed h
+            (λ a T m. a < X .size → max T after + F .charge b * X .cost b ≤ F .tag b + 2 * X .width + m * X .cost a)
+            (λ _. omega (arith, behind))
+            (λ a la. omega (arith, behind, g .level a b la lb w))
+            a la)
+            b w lb;
       }
 
 -- reset: an opening, or Idle
@@ -183,4 +224,5 @@ reset-good X {c} {F} tags charges =
           own-low c t (X .share j) (F .tag j) (F .charge j) λ w. absurd (omega (arith, charges j l));
       near = λ j l. omega (arith, tags j l);
       fits = λ j l. rw (charges j l) (omega arith);
+      level = λ a b la lb w. absurd (omega (arith, charges b lb));
     }

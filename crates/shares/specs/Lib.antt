@@ -7,6 +7,7 @@
 -- a pick, an Idle, an opening. `Calls`: one call. `Stretches`: a stretch of calls.
 pub mod Runs
 pub mod Shares
+pub mod Groups
 pub mod Rule
 pub mod Bites
 pub mod Sum

@@ -23,9 +23,10 @@ use Rattle.uplink.specs.State.{State, state}
 use Rattle.uplink.specs.Form.{clockEnd}
 use Rattle.uplink.specs.Formed.{Formed}
 use Rattle.uplink.specs.declared.Record.{Record}
-use Rattle.shares.specs.Bridge.{flowOf, tableWith, tableOf, waitingCharge, viewOf, Steady, charge-idle}
+use Rattle.shares.specs.Bridge.{flowOf, tableWith, tableOf, viewOf, Steady, charge-idle}
 use Rattle.shares.specs.Bridge.{table-sound, tags-formed}
 use Rattle.shares.specs.Keep.{Good, Change}
+use Rattle.shares.specs.Runs.{waitingCharge}
 
 -- flow `index` becomes `flow`, its packet of number `number` gets a length and a handle, and the clocks are set
 pub record Put : Type 0 where

@@ -6,18 +6,19 @@
 use mathlib.Core.Path.{_≡_}
 use mathlib.Core.Bool.{Bool, true, cond}
 use mathlib.Core.List.{List, [], _∷_}
-use Prim.Native.Nat.{ℕ, _+_, _<_}
+use Prim.Native.Nat.{ℕ, _+_, _-_, max, _<_}
 use lib.Dec.{eqb, ltb}
 use lib.ListN.{getD}
-use Rattle.cost.specs.Charge.{chargeOf}
+use Rattle.cost.specs.Charge.{chargeOf, chargeTicks}
 use Rattle.reply.specs.Reply.{Reply, idle, done, refused}
 use Rattle.tags.specs.Choice.{Smallest}
-use Rattle.uplink.specs.Record.{tagOf, waitingOf}
+use Rattle.uplink.specs.Flow.{flowCost}
+use Rattle.uplink.specs.Record.{flowAt, tagOf, waitingOf}
 use Rattle.uplink.specs.State.{State, Outcome, demand}
 use Rattle.uplink.specs.Form.{checked}
 use Rattle.uplink.specs.Opening.{openingRule}
 use Rattle.uplink.specs.Arrival.{arrivalRule}
-use Rattle.uplink.specs.Pick.{clockLimit, leadOf, serveRule, idleRule}
+use Rattle.uplink.specs.Pick.{clockLimit, leadOf, frontCharge, serveRule, idleRule}
 use Rattle.uplink.specs.Calls.{Call, opening, arrival, pick, afterCall}
 
 -- something waits
@@ -141,6 +142,27 @@ lastTagFrom f before (x ∷ xs) = lastTagFrom f (tagAfter f before (x .outcome .
 -- the same, "or 0"
 abbrev pub lastTag : ℕ → List Event → ℕ
 lastTag f = lastTagFrom f 0
+
+-- 1 where a pick was not refused: it is Idle or tells a packet
+abbrev pub pickIn : Reply → ℕ
+pickIn idle = 1
+pickIn (refused number flow) = 0
+pickIn (done []) = 0
+pickIn (done (flow ∷ rest)) = 1
+
+-- the number of picks that were not refused
+abbrev pub picksOf : List Event → ℕ
+picksOf = total (λ o. pickIn (o .reply))
+
+-- the charge of flow f's front packet, and 0 where nothing waits
+unfoldable pub waitingCharge : State → ℕ → ℕ
+waitingCharge s f = cond (eqb (waitingOf (s .held) f) 0) 0 (frontCharge s f)
+
+-- the start of flow f: its tag less its front packet's charge × cost, or the larger of tag and clock where none waits
+unfoldable pub startOf : State → ℕ → ℕ
+startOf s f =
+    cond (eqb (waitingOf (s .held) f) 0) (max (tagOf (s .held) f) (s .held .clock .0))
+    (tagOf (s .held) f - chargeTicks (flowCost (flowAt (s .held) f)) (frontCharge s f))
 
 -- flow f has a packet waiting at every pick
 abbrev pub WaitsAtPicks : ℕ → State → List Event → Type 0

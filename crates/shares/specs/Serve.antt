@@ -1,10 +1,10 @@
 -- A pick of a flow of smallest tag: leap, serve and front, in this order. It keeps what is steady,
--- leaves the clock at or below the tag, and moves the start of its own flow alone.
+-- leaves the clock at or below the tag, and of the flows that wait it moves the start of its own alone.
 -- Assumes nothing.
 use mathlib.Core.Path.{_≡_, refl, sym, _∙_}
 use mathlib.Core.Bool.{Bool, true, false, cond}
 use Prim.Native.Nat.{ℕ, _+_, _*_, _%_, _≤_, _<_}
-use native.Mathlib.Decide.{decLe}
+use native.Mathlib.Decide.{ℕ-discrete, decLe}
 use native.Mathlib.Omega.{arith}
 use lib.Dec.{eqb}
 use lib.Seq.{getD-set-other}
@@ -28,7 +28,7 @@ use Rattle.shares.specs.Bridge.{flowOf, clockOf, tableOf, viewOf, Steady
 use Rattle.shares.specs.Bridge.{table-sound, packet-fits, IdleTags}
 use Rattle.shares.specs.Put.{Put, putState, lengthIn, put-each, put-charge, put-idle, put-change, put-table}
 use Rattle.shares.specs.Put.{put-steady}
-use Rattle.shares.specs.Start.{MovesOn, StaysAhead, same-start, moves-then, front-start, serve-start}
+use Rattle.shares.specs.Start.{behind, MovesAt, same-moves, moves-then, front-moves, serve-moves}
 
 module _ (s : State) (f : ℕ) where
   -- flow f before and after, and the state after
@@ -91,6 +91,10 @@ module _ (s : State) (f : ℕ) where
     front-charge : viewOf s .charge f ≡ frontCharge s f
     front-charge = charge-waits s f (small .waits)
 
+    -- which is not 0
+    front-some : 0 < viewOf s .charge f
+    front-some = charge-some s f (form .queue) (small .waits)
+
     -- no flow that waits has a smaller tag
     least : (j : ℕ) → j < s .held .flows → 0 < viewOf s .charge j → viewOf s .tag f ≤ viewOf s .tag j
     least j l w = small .least j l (waits-charge s j w)
@@ -110,8 +114,7 @@ module _ (s : State) (f : ℕ) where
     serve-in-time = omega (
       arith,
       front-charge,
-      in-time sound (clockLeapt (s .held) f) f leapt-good (small .counts)
-          (charge-some s f (form .queue) (small .waits)),
+      in-time sound (clockLeapt (s .held) f) f leapt-good (small .counts) front-some,
     )
 
     -- serve: flow f with nothing at its front
@@ -131,7 +134,7 @@ module _ (s : State) (f : ℕ) where
     -- the backlog and the bounds with the clock of step 4
     middle-good : Good (tableOf s) (clockAfter s f) middle
     middle-good = rw front-charge at
-        (serve-good sound (clockLeapt (s .held) f) f (small .counts) leapt-good middle-change least
+        (serve-good sound (clockLeapt (s .held) f) f (small .counts) leapt-good middle-change front-some least
         (leap-near (clockOf s) (s .held .width) (old .tag .0)
         (tag-at-most (clockOf s) (s .held .width) (old .tag .0) (old .queue .waiting) (form .tag))))
 
@@ -161,7 +164,7 @@ module _ (s : State) (f : ℕ) where
     served-good = elim (decLe (old .queue .waiting) 1) as (λ _. Good (tableOf s) (clockAfter s f) (viewOf after)) [
       | yes p ↦ rw (serve-last p) middle-good
       | no p ↦ front-good sound (clockAfter s f) f (behindCharge s f) (small .counts) middle-good
-          (middle-change .charge-at) (behind-fits (omega arith)) (serve-front (omega arith))
+          (middle-change .charge-at) (serve-front (omega arith)) (behind-fits (omega arith))
     ]
 
     -- the clock stays below its end
@@ -198,26 +201,37 @@ module _ (s : State) (f : ℕ) where
     pub serve-clock-on : clockOf s + linkTicks (frontCharge s f) ≤ clockAfter s f
     serve-clock-on = omega (arith, leap-low (clockOf s) (s .held .width) (old .tag .0))
 
-    -- after the serve no flow that waited is behind the clock, and the next front moves no start
-    front-stays : (g : ℕ) → g < s .held .flows → 0 < flowOf s g .queue .waiting
-        → StaysAhead (clockAfter s f) g (flowCost (flowOf s g)) middle (viewOf after)
-    front-stays g l w = elim (decLe (old .queue .waiting) 1)
-        as (λ _. StaysAhead (clockAfter s f) g (flowCost (flowOf s g)) middle (viewOf after)) [
-          | yes p ↦ same-start (flowCost (flowOf s g)) (clockAfter s f) g (serve-last p) still
-          | no p ↦ front-start (tableOf s .cost) (clockAfter s f) f (behindCharge s f)
-              (middle-change .charge-at) (serve-front (omega arith)) g still
+    -- the next front moves no start
+    front-after : (g : ℕ) → MovesAt (tableOf s .cost) g 0 (clockAfter s f) middle (clockAfter s f) (viewOf after)
+    front-after g = elim (decLe (old .queue .waiting) 1)
+        as (λ _. MovesAt (tableOf s .cost) g 0 (clockAfter s f) middle (clockAfter s f) (viewOf after)) [
+          | yes p ↦ same-moves (tableOf s .cost) (clockAfter s f) (serve-last p) g
+          | no p ↦ front-moves (tableOf s .cost) (clockAfter s f) f (behindCharge s f) (middle-change .charge-at)
+              (serve-front (omega arith)) g
         ]
-      where
-        still : clockAfter s f ≤ viewOf s .tag g
-        still = omega (arith, serve-in-time, small .least g l w)
 
-    -- so the start of such a flow moves on by its own packet's charge alone
-    pub serve-moves : (g : ℕ) → g < s .held .flows → 0 < flowOf s g .queue .waiting
-        → (clockAfter s f ≤ viewOf after .tag g)
-        × MovesOn g (flowCost (flowOf s g)) (cond (eqb f g) (frontCharge s f) 0) (viewOf s) (viewOf after)
-    serve-moves g l w =
-        let stays = front-stays g l w in (
-          stays .0,
-          moves-then g _ (cond (eqb f g) (frontCharge s f) 0) (viewOf s) middle (viewOf after)
-              (rw front-charge at (serve-start (tableOf s .cost) f middle-change g)) (stays .1),
-        )
+    -- what is picked of flow g
+    abbrev ofFlow : ℕ → ℕ
+    ofFlow g = cond (eqb f g) (frontCharge s f) 0
+
+    -- so each flow moves by what is picked of it
+    pub served-moves : (g : ℕ)
+        → MovesAt (tableOf s .cost) g (ofFlow g) (clockOf s) (viewOf s) (clockAfter s f) (viewOf after)
+    served-moves g = moves-then (rw front-charge at
+        (serve-moves (tableOf s .cost) (clockOf s) (clockAfter s f) f (omega (arith, serve-clock-on)) middle-change g))
+        (front-after g)
+
+    module _ (h : ℕ) (counts : h < s .held .flows) (waits : 0 < flowOf s h .queue .waiting) where
+      -- the clock does not pass the tag of a flow that waits
+      pub served-before : clockAfter s f ≤ viewOf s .tag h
+      served-before = omega (arith, serve-in-time, small .least h counts waits)
+
+      -- and what is picked of flow g is no more than its start is behind that tag
+      pub served-turn : (g : ℕ) → let cost = tableOf s .cost g in
+          ofFlow g * cost ≤ behind (viewOf s .tag h) cost (clockOf s) (viewOf s .tag g) (viewOf s .charge g)
+      served-turn g = let cost = tableOf s .cost g in elim (ℕ-discrete g f)
+          as (λ _. ofFlow g * cost ≤ behind (viewOf s .tag h) cost (clockOf s) (viewOf s .tag g) (viewOf s .charge g)) [
+            | yes q ↦ rw (q, eq-eqb f f refl, front-charge)
+                (omega (arith, serve-in-time, serve-clock-on, small .least h counts waits))
+            | no q ↦ rw (ne-eqb f g λ e. q (sym e)) (omega arith)
+          ]

@@ -14,10 +14,11 @@ use Rattle.uplink.specs.State.{State, Outcome}
 use Rattle.uplink.specs.Pick.{clockLimit}
 use Rattle.uplink.specs.Calls.{Call, pick}
 use Rattle.shares.specs.Runs.{somethingWaits, Gives, Event, Stretch, endOf, Carried, Restarted, picked}
-use Rattle.shares.specs.Runs.{pickedOf, leapsOf, lastTag, WaitsAtPicks, NeverIdle}
+use Rattle.shares.specs.Runs.{pickedOf, leapsOf, waitingCharge, lastTag, WaitsAtPicks, NeverIdle}
 use Rattle.shares.specs.Bridge.{tableOf}
 use Rattle.shares.specs.Calls.{any-late, call-refused, call-in-time}
-use Rattle.shares.specs.Stretches.{carried-steady, share-stretch, restarted-zeroed, clocks-stretch, last-stretch}
+use Rattle.shares.specs.Stretches.{carried-steady, kept-stretch, share-stretch, restarted-zeroed, clocks-stretch}
+use Rattle.shares.specs.Stretches.{last-stretch}
 
 -- The form is never lost: no carried call is refused with 1 or 2.
 pub form-kept : {s : State} → Carried s → (call : Call) (o : Outcome) → Gives s call o
@@ -36,12 +37,27 @@ pub clock-in-time : {s : State} → Carried s → (o : Outcome) → Gives s pick
 clock-in-time {s} c o gives flow length handle tag leapt clock e =
     rw e at (call-in-time s (carried-steady c) pick o tt gives)
 
--- Demand 3: 720 × W ≤ S × cost + 3Δ, over every stretch at whose every pick flow f has a packet waiting.
--- Of the other flows nothing is asked.
-pub share : {s : State} → Carried s → (f : ℕ) → f < s .held .flows
-    → (stretch : List Event) → Stretch s stretch → WaitsAtPicks f s stretch
-    → 720 * picked stretch ≤ pickedOf f stretch * flowCost (flowAt (s .held) f) + 3 * s .held .width
-share {s} c f l stretch = share-stretch (tableOf s) f l s stretch (carried-steady c) refl
+-- No packet is charged more than Δ, so the front packet at the end of a stretch is not.
+pub front-fits : {s : State} → Carried s → (f : ℕ) → f < s .held .flows → (stretch : List Event) → Stretch s stretch
+    → waitingCharge (endOf s stretch) f * flowCost (flowAt (s .held) f) ≤ s .held .width
+front-fits {s} c f l stretch run = let kept = kept-stretch s stretch (carried-steady c) run in
+    (rw (kept .1) at (kept .0 .good)) .fits f l
+
+module _ {s : State} (c : Carried s) (f : ℕ) (l : f < s .held .flows)
+    (stretch : List Event) (run : Stretch s stretch) (waits : WaitsAtPicks f s stretch) where
+  -- Demand 3, sharper, over every stretch at whose every pick flow f has a packet waiting. n is the charge of its front
+  -- packet at the end, 0 where none waits: 720 × (W + n) ≤ (S + n) × cost + 2Δ, and so ≤ S × cost + 3Δ.
+  -- Of the other flows nothing is asked.
+  pub share-with-front : let n = waitingCharge (endOf s stretch) f in
+      let cost = flowCost (flowAt (s .held) f) in
+      (720 * (picked stretch + n) ≤ (pickedOf f stretch + n) * cost + 2 * s .held .width)
+      × (720 * (picked stretch + n) ≤ pickedOf f stretch * cost + 3 * s .held .width)
+  share-with-front = let closer = share-stretch (tableOf s) f l s stretch (carried-steady c) refl run waits in
+      omega (arith, closer, front-fits c f l stretch run)
+
+  -- Demand 3: 720 × W ≤ S × cost + 3Δ.
+  pub share : 720 * picked stretch ≤ pickedOf f stretch * flowCost (flowAt (s .held) f) + 3 * s .held .width
+  share = omega (arith, share-with-front)
 
 -- The clocks, since the opening or the last Idle:
 -- clock = link time + Δ × number of leaps, and link time = 720 × the charges picked.

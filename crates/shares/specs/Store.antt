@@ -1,4 +1,4 @@
--- An arrival that is taken keeps what is steady, and moves no flow's start that is not behind the clock.
+-- An arrival that is taken keeps what is steady, and moves no flow's start.
 -- Assumes nothing.
 use mathlib.Core.Path.{_≡_, refl, sym, _∙_}
 use mathlib.Core.Bool.{true}
@@ -18,7 +18,7 @@ use Rattle.shares.specs.Keep.{Good, Change, unchanged, front-good}
 use Rattle.shares.specs.Bridge.{flowOf, clockOf, tableOf, viewOf, Steady, charge-idle, charge-waits, table-sound}
 use Rattle.shares.specs.Bridge.{packet-fits, IdleTags}
 use Rattle.shares.specs.Put.{Put, putState, lengthIn, put-each, put-charge, put-change, put-table, put-steady}
-use Rattle.shares.specs.Start.{StaysAhead, same-start, front-start}
+use Rattle.shares.specs.Start.{MovesAt, same-moves, front-moves}
 
 -- an arrival of n bytes at flow f that is taken
 abbrev pub Joins : State → ℕ → ℕ → Type 0
@@ -105,8 +105,8 @@ module _ (s : State) (f n handle : ℕ) where
     -- the backlog and the bounds are kept
     store-good : Good (tableOf s) clock (viewOf after)
     store-good = elim (ℕ-discrete (old .queue .waiting) 0) as (λ _. Good (tableOf s) clock (viewOf after)) [
-      | yes q ↦ front-good (table-sound s (S .form)) clock f charge inside (S .good) (charge-idle s f q)
-          (packet-fits s (S .form) f n inside (J .short)) (store-front q)
+      | yes q ↦ front-good (table-sound s (S .form)) clock f charge inside (S .good) (charge-idle s f q) (store-front q)
+          (packet-fits s (S .form) f n inside (J .short))
       | no q ↦ rw (store-behind (omega arith)) (S .good)
     ]
 
@@ -127,11 +127,10 @@ module _ (s : State) (f n handle : ℕ) where
     store-idle told before = put-each s stored S inside (λ j x. x .queue .waiting ≡ 0 → x .tag .0 ≡ told j)
         (λ e. absurd (omega arith)) λ j _. before j
 
-    -- no flow's start moves that is not behind the clock
-    pub store-start : (g : ℕ) → clock ≤ viewOf s .tag g
-        → StaysAhead clock g (flowCost (flowOf s g)) (viewOf s) (viewOf after)
-    store-start g a = elim (ℕ-discrete (old .queue .waiting) 0)
-        as (λ _. StaysAhead clock g (flowCost (flowOf s g)) (viewOf s) (viewOf after)) [
-          | yes q ↦ front-start (tableOf s .cost) clock f charge (charge-idle s f q) (store-front q) g a
-          | no q ↦ same-start (flowCost (flowOf s g)) clock g (store-behind (omega arith)) a
+    -- no flow's start moves
+    pub store-moves : (g : ℕ) → MovesAt (tableOf s .cost) g 0 clock (viewOf s) clock (viewOf after)
+    store-moves g = elim (ℕ-discrete (old .queue .waiting) 0)
+        as (λ _. MovesAt (tableOf s .cost) g 0 clock (viewOf s) clock (viewOf after)) [
+          | yes q ↦ front-moves (tableOf s .cost) clock f charge (charge-idle s f q) (store-front q) g
+          | no q ↦ same-moves (tableOf s .cost) clock (store-behind (omega arith)) g
         ]

@@ -2,17 +2,21 @@
 -- Assumes nothing.
 use mathlib.Core.Path.{_≡_, refl, ap, _∙_}
 use mathlib.Core.List.{List, [], _∷_}
-use Prim.Native.Nat.{ℕ, _+_, _*_, _≤_, _<_}
+use Prim.Native.Nat.{ℕ, _+_, _-_, _*_, max, _≤_, _<_}
+use native.Mathlib.Nat.{mul-le-mul-right}
+use native.Mathlib.Decide.{decLe}
 use native.Mathlib.Omega.{arith}
 use Rattle.uplink.specs.State.{State}
-use Rattle.uplink.specs.Calls.{Call, opening, arrival, pick}
-use Rattle.shares.specs.Keep.{Table, Good, in-time}
-use Rattle.shares.specs.Bridge.{flowOf, clockOf, tableOf, viewOf, IdleTags, Zeroed, Steady, charge-some}
+use Rattle.uplink.specs.Calls.{pick}
+use Rattle.shares.specs.Keep.{Table, Good, in-time, level-all}
+use Rattle.shares.specs.Start.{Low, behind, behind-more}
+use Rattle.shares.specs.Bridge.{flowOf, clockOf, tableOf, viewOf, IdleTags, Zeroed, Steady, waits-charge}
 use Rattle.shares.specs.Bridge.{table-sound}
 use Rattle.shares.specs.Opened.{accepted-steady, accepted-zeroed}
 use Rattle.shares.specs.Runs.{Gives, Plain, Event, Stretch, endOf, Carried, opened, next, Restarted, idled}
-use Rattle.shares.specs.Runs.{picked, pickedOf, leapsOf, tagAfter, lastTagFrom, WaitsAtPicks, NeverIdle}
-use Rattle.shares.specs.Calls.{Counts, call-keeps, call-counts, call-silent, call-clocks, call-last, call-idle}
+use Rattle.shares.specs.Runs.{chargeFor, picked, pickedOf, leapsOf, picksOf, waitingCharge, tagAfter, lastTagFrom}
+use Rattle.shares.specs.Runs.{WaitsAtPicks, NeverIdle}
+use Rattle.shares.specs.Calls.{Counts, call-keeps, call-counts, call-busy, call-clocks, call-last, call-idle}
 
 -- every carried state is steady
 pub carried-steady : {s : State} → Carried s → Steady s
@@ -24,14 +28,16 @@ pub carried-on : {s : State} → Carried s → (xs : List Event) → Stretch s x
 carried-on c [] run = c
 carried-on {s} c (x ∷ xs) run = carried-on (next s x c (run .0) (run .1)) xs (run .2)
 
--- a call is a pick or is not
-is-pick : (call : Call) → Dec (call ≡ pick)
-is-pick (opening shares largest header) = no λ e. let z : _≡_ {A = ℕ} 0 1 = cc in omega arith
-is-pick (arrival flow length handle) = no λ e. let z : _≡_ {A = ℕ} 0 1 = cc in omega arith
-is-pick pick = yes refl
+-- what is steady stays so over a stretch, and the table stays
+pub kept-stretch : (s : State) (xs : List Event) → Steady s → Stretch s xs
+    → Steady (endOf s xs) × (tableOf (endOf s xs) ≡ tableOf s)
+kept-stretch s [] S run = (S, refl)
+kept-stretch s (x ∷ xs) S run =
+    let kept = call-keeps s S (x .call) (x .outcome) (run .0) (run .1) in
+    let rest = kept-stretch (x .outcome .state) xs (kept .0) (run .2) in (rest .0, rest .1 ∙ kept .1)
 
 module _ (X : Table) (f : ℕ) (l : f < X .size) where
-  -- flow f, the backlog and one call's count, in the numbers of a table that stays
+  -- flow f, the backlog and one call, in the numbers of a table that stays
   module _ (s : State) (S : Steady s) (e : tableOf s ≡ X) where
     in-table : f < s .held .flows
     in-table = rw (ap (λ (Y : Table). Y .size) e) l
@@ -39,44 +45,95 @@ module _ (X : Table) (f : ℕ) (l : f < X .size) where
     good-table : Good X (clockOf s) (viewOf s)
     good-table = rw e at (S .good)
 
-    counts-table : (x : Event) → Plain (x .call) → Gives s (x .call) (x .outcome)
-        → (x .call ≡ pick → 0 < flowOf s f .queue .waiting) → clockOf s ≤ viewOf s .tag f
-        → Counts f (X .cost f) s (x .outcome)
-    counts-table x plain gives waits ahead = rw (ap (λ (Y : Table). Y .cost f) e) at
-        (call-counts s S (x .call) (x .outcome) plain gives f in-table ahead waits)
+    -- one call, where flow f waits if it is a pick: steady and table stay, and what it has to do with the flows
+    step-table : (x : Event) → Plain (x .call) → Gives s (x .call) (x .outcome)
+        → (x .call ≡ pick → 0 < flowOf s f .queue .waiting)
+        → Steady (x .outcome .state) × (tableOf (x .outcome .state) ≡ X) × Counts X f s (x .outcome)
+    step-table x plain gives waits =
+        let kept = call-keeps s S (x .call) (x .outcome) plain gives in
+        (kept .0, kept .1 ∙ e, rw e at (call-counts s S (x .call) (x .outcome) plain gives f in-table waits))
 
-  -- what is picked from now on is at most what is picked of flow f, what its start is ahead of the clock, and Δ
-  ahead-stretch : (s : State) (xs : List Event) → Steady s → tableOf s ≡ X → Stretch s xs → WaitsAtPicks f s xs
-      → clockOf s ≤ viewOf s .tag f
-      → clockOf s + viewOf s .charge f * X .cost f + 720 * picked xs
-      ≤ viewOf s .tag f + X .width + pickedOf f xs * X .cost f
-  ahead-stretch s [] S e run waits ahead = omega (arith, good-table s S e .fits f l)
-  ahead-stretch s (x ∷ xs) S e run waits ahead =
-      let kept = call-keeps s S (x .call) (x .outcome) (run .0) (run .1) in
-      let counts = counts-table s S e x (run .0) (run .1) (waits .0) ahead in
-      let rest = ahead-stretch (x .outcome .state) xs (kept .0) (kept .1 ∙ e) (run .2) (waits .1) (counts .ahead) in
-      omega (arith, counts .clock, counts .start, rest)
+    -- the start of flow f is at most R
+    abbrev LowTable : ℕ → Type 0
+    LowTable R = Low R (X .cost f) (clockOf s) (viewOf s .tag f) (viewOf s .charge f)
 
-  -- where flow f waits its start is at most 2Δ ahead
-  waits-stretch : (s : State) (xs : List Event) → Steady s → tableOf s ≡ X → Stretch s xs → WaitsAtPicks f s xs
-      → 0 < flowOf s f .queue .waiting → 720 * picked xs ≤ pickedOf f xs * X .cost f + 3 * X .width
-  waits-stretch s xs S e run waits w =
-      let some = charge-some s f (S .form .each f (in-table s S e) .queue) w in
-      let ahead = in-time (table-sound s (S .form)) (clockOf s) f (S .good) (in-table s S e) some in
-      omega (arith, good-table s S e .near f l, ahead-stretch s xs S e run waits (omega arith))
+    -- then the link has room for its front packet by then
+    room-table : (R : ℕ) → LowTable R → clockOf s + 720 * waitingCharge s f ≤ R + waitingCharge s f * X .cost f
+    room-table R low = elim (decLe 1 (waitingCharge s f))
+        as (λ _. clockOf s + 720 * waitingCharge s f ≤ R + waitingCharge s f * X .cost f) [
+          | yes w ↦ omega (arith, in-time (table-sound s (S .form)) (clockOf s) f (S .good) in-table w)
+          | no w ↦ omega arith
+        ]
 
-  -- demand 3: up to the first pick nothing is picked, and there flow f waits
+  -- as far as the start of flow f comes where it is at most R, its front packet at the end counted as picked
+  abbrev reachOf : ℕ → State → List Event → ℕ
+  reachOf R s xs = R + (pickedOf f xs + waitingCharge (endOf s xs) f) * X .cost f
+
+  -- neither the clock at the end, with the front packet's link ticks, nor flow f's tag now is past that
+  reach-stretch : (R : ℕ) (s : State) (xs : List Event) (S : Steady s) (e : tableOf s ≡ X) → Stretch s xs
+      → WaitsAtPicks f s xs → LowTable s S e R
+      → (clockOf s + 720 * (picked xs + waitingCharge (endOf s xs) f) ≤ reachOf R s xs)
+      × (viewOf s .tag f ≤ reachOf R s xs)
+  reach-stretch R s [] S e run waits low = omega (arith, room-table s S e R low)
+  reach-stretch R s (x ∷ xs) S e run waits low =
+      let step = step-table s S e x (run .0) (run .1) (waits .0) in
+      let moves = step .2 .moves f in
+      let rest = reach-stretch (R + chargeFor f (x .outcome) * X .cost f) (x .outcome .state) xs (step .0) (step .1)
+      (run .2) (waits .1) (moves .low R (omega (arith, step .2 .before)) low) in
+      omega (arith, step .2 .clock, rest, moves .lifts, mul-le-mul-right (X .cost f) (moves .stays))
+
+  -- demand 3, flow f's front packet at the end counted as picked: a start is at most 2Δ ahead of the clock
   pub share-stretch : (s : State) (xs : List Event) → Steady s → tableOf s ≡ X → Stretch s xs → WaitsAtPicks f s xs
-      → 720 * picked xs ≤ pickedOf f xs * X .cost f + 3 * X .width
-  share-stretch s [] S e run waits = omega arith
-  share-stretch s (x ∷ xs) S e run waits = elim (is-pick (x .call))
-      as (λ _. 720 * picked (x ∷ xs) ≤ pickedOf f (x ∷ xs) * X .cost f + 3 * X .width) [
-        | yes p ↦ waits-stretch s (x ∷ xs) S e run waits (waits .0 p)
-        | no p ↦ let kept = call-keeps s S (x .call) (x .outcome) (run .0) (run .1) in
-            let silent = call-silent s S (x .call) (x .outcome) (run .0) (run .1) p f in
-            let rest = share-stretch (x .outcome .state) xs (kept .0) (kept .1 ∙ e) (run .2) (waits .1) in
-            rw (silent .1, silent .0) (omega (arith, rest))
-      ]
+      → 720 * (picked xs + waitingCharge (endOf s xs) f)
+      ≤ (pickedOf f xs + waitingCharge (endOf s xs) f) * X .cost f + 2 * X .width
+  share-stretch s xs S e run waits = let near = good-table s S e .near f l in
+      omega (arith, reach-stretch (clockOf s + 2 * X .width) s xs S e run waits (omega arith))
+
+  -- a flow that waits and is not picked waits at every pick, and at the end
+  pub still-stretch : (s : State) (xs : List Event) → Steady s → tableOf s ≡ X → Stretch s xs → 0 < waitingCharge s f
+      → pickedOf f xs ≡ 0 → WaitsAtPicks f s xs × (0 < waitingCharge (endOf s xs) f)
+  still-stretch s [] S e run some none = (tt, some)
+  still-stretch s (x ∷ xs) S e run some none =
+      let waits = waits-charge s f some in
+      let step = step-table s S e x (run .0) (run .1) (λ _. waits) in
+      let rest = still-stretch (x .outcome .state) xs (step .0) (step .1) (run .2)
+      (omega (arith, step .2 .moves f .stays)) (omega arith) in
+      ((λ _. waits, rest .0), rest .1)
+
+  -- while a flow waits at every pick no reply is Idle, and a pick that was not refused charges a byte or more
+  pub busy-stretch : (s : State) (xs : List Event) → Steady s → tableOf s ≡ X → Stretch s xs → WaitsAtPicks f s xs
+      → NeverIdle xs × (picksOf xs ≤ picked xs)
+  busy-stretch s [] S e run waits = (tt, omega arith)
+  busy-stretch s (x ∷ xs) S e run waits =
+      let step = step-table s S e x (run .0) (run .1) (waits .0) in
+      let busy = call-busy s S (x .call) (x .outcome) (run .0) (run .1) f (in-table s S e) (waits .0) in
+      let rest = busy-stretch (x .outcome .state) xs (step .0) (step .1) (run .2) (waits .1) in
+      ((busy, rest .0), omega (arith, step .2 .byte, rest .1))
+
+  module _ (g : ℕ) (m : g < X .size) where
+    -- what is picked of flow g from now on is no more than its start is behind the reach of flow f
+    draw-stretch : (R : ℕ) (s : State) (xs : List Event) (S : Steady s) (e : tableOf s ≡ X) → Stretch s xs
+        → WaitsAtPicks f s xs → LowTable s S e R
+        → pickedOf g xs * X .cost g
+        ≤ behind (reachOf R s xs) (X .cost g) (clockOf s) (viewOf s .tag g) (viewOf s .charge g)
+    draw-stretch R s [] S e run waits low = omega arith
+    draw-stretch R s (x ∷ xs) S e run waits low =
+        let step = step-table s S e x (run .0) (run .1) (waits .0) in
+        let on = R + chargeFor f (x .outcome) * X .cost f in
+        let same : reachOf on (x .outcome .state) xs ≡ reachOf R s (x ∷ xs) = omega arith in
+        let rest = draw-stretch on (x .outcome .state) xs (step .0) (step .1) (run .2) (waits .1)
+        (step .2 .moves f .low R (omega (arith, step .2 .before)) low) in
+        behind-more (step .2 .moves g) (viewOf s .tag f) (reachOf R s (x ∷ xs)) (pickedOf g xs) (step .2 .turn g)
+        (reach-stretch R s (x ∷ xs) S e run waits low .1) (rw same at rest)
+
+    -- nobody overdraws, flow f's front packet at the end counted as picked: its start is at most 2Δ ahead of flow g's
+    pub overdraw-stretch : (s : State) (xs : List Event) → Steady s → tableOf s ≡ X → Stretch s xs → WaitsAtPicks f s xs
+        → pickedOf g xs * X .cost g ≤ (pickedOf f xs + waitingCharge (endOf s xs) f) * X .cost f + 2 * X .width
+    overdraw-stretch s xs S e run waits =
+        let good = good-table s S e in
+        let level = level-all (clockOf s) good f g l m in
+        let ahead = max (viewOf s .tag g) (clockOf s) + 2 * X .width - viewOf s .charge g * X .cost g in
+        omega (arith, good .fits g m, draw-stretch ahead s xs S e run waits (omega arith))
 
 -- where the clocks start they are 0, and so are the tags, and the state is steady
 pub restarted-zeroed : {s : State} → Restarted s → Steady s × Zeroed s
