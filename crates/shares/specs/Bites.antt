@@ -19,7 +19,7 @@ use Rattle.uplink.specs.State.{State, Outcome}
 use Rattle.uplink.specs.Pick.{pickRule}
 use Rattle.uplink.specs.Calls.{Call, opening, arrival, pick, start, afterCall, everyRule}
 use Rattle.shares.specs.Runs.{takeRule, Taken, valueIn, NoOpening, Event, Stretch, endOf, runOf, openingIn}
-use Rattle.shares.specs.Runs.{Carried, opened, ofPacket, total, picked, pickedOf, WaitsAtPicks}
+use Rattle.shares.specs.Runs.{Carried, opened, ofPacket, total, picked, pickedOf, figureOf, WaitsAtPicks}
 use Rattle.shares.specs.Shares.{share}
 use Rattle.shares.specs.Rule.{rule-carried, rule-share}
 
@@ -44,7 +44,7 @@ stretchOf w = runOf (beginOf w) (w .stretch)
 
 -- the bound of demand 3 with so many Δ
 abbrev pub boundOf : Worked → List Event → ℕ → ℕ → ℕ
-boundOf w run f most = pickedOf f run * flowCost (flowAt (beginOf w .held) f) + most * beginOf w .held .width
+boundOf w run f most = figureOf f (beginOf w) run + most * beginOf w .held .width
 
 -- what a run of the stretch shows of flow f: it meets what demand 3 asks, and these are W, S, the flow's cost and Δ
 pub record Shows (w : Worked) (run : List Event) (f W S cost width : ℕ) : Type 0 where
@@ -96,7 +96,7 @@ showsAll w run f W S cost width =
     && eqb (beginOf w .held .width) width)
 
 -- and what it says
-shows-of : (w : Worked) (run : List Event) (f W S cost width : ℕ)
+pub shows-of : (w : Worked) (run : List Event) (f W S cost width : ℕ)
     → openingIn start (w .shares) (w .largest) (w .header) .reply ≡ done [] → showsAll w run f W S cost width ≡ true
     → Shows w run f W S cost width
 shows-of w run f W S cost width accepted e =

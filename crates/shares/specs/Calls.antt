@@ -99,7 +99,8 @@ pub record Counts (X : Table) (f : ℕ) (s : State) (o : Outcome) : Type 0 where
   pub clock : clockOf s + 720 * chargeIn o ≤ clockOf (o .state)
   pub before : clockOf (o .state) ≤ max (viewOf s .tag f) (clockOf s)
   -- each flow moves by what was picked of it
-  pub moves : (g : ℕ) → MovesAt (X .cost) g (chargeFor g o) (clockOf s) (viewOf s) (clockOf (o .state)) (viewOf (o .state))
+  pub moves : (g : ℕ)
+      → MovesAt (X .cost) g (chargeFor g o) (clockOf s) (viewOf s) (clockOf (o .state)) (viewOf (o .state))
   -- and is picked only where it is not behind flow f: by no more than its start is behind flow f's tag
   pub turn : (g : ℕ) → chargeFor g o * X .cost g
       ≤ behind (viewOf s .tag f) (X .cost g) (clockOf s) (viewOf s .tag g) (viewOf s .charge g)

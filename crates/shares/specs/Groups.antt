@@ -1,6 +1,6 @@
 -- Document 02 b): "Two groups that both wait", and what stands behind it, for every run from an accepted opening
 -- (`Carried`), whichever flow of smallest tag a pick takes (`Gives`). `Rule` says the same of document 01's own pick.
--- All words are those of `Runs`: a flow's figure is the charges picked of it × its own cost, `startOf` its start.
+-- All words are those of `Runs`: `figureOf` is a flow's charges picked × its own cost, `startOf` its start.
 -- Assumes nothing.
 use mathlib.Core.Path.{_≡_, refl, ap}
 use mathlib.Core.Bool.{Bool, true, false, cond}
@@ -16,7 +16,7 @@ use Rattle.uplink.specs.Record.{flowAt, waitingOf}
 use Rattle.uplink.specs.State.{State, Outcome}
 use Rattle.uplink.specs.Calls.{pick}
 use Rattle.shares.specs.Runs.{Gives, Event, Stretch, endOf, Carried, chargeIn, chargeFor, pickedOf, picksOf}
-use Rattle.shares.specs.Runs.{ofPacket, waitingCharge, startOf, WaitsAtPicks}
+use Rattle.shares.specs.Runs.{ofPacket, figureOf, waitingCharge, startOf, WaitsAtPicks}
 use Rattle.shares.specs.Keep.{Table, in-time, level-all}
 use Rattle.shares.specs.Bridge.{Steady, clockOf, tableOf, viewOf, charge-idle, charge-waits, charge-some}
 use Rattle.shares.specs.Bridge.{waits-charge, table-sound}
@@ -44,10 +44,6 @@ pub nobody-ahead : {s : State} → Carried s → (f g : ℕ) → f < s .held .fl
 nobody-ahead {s} c f g l m = let S = carried-steady c in
     omega (arith, start-is s S f l, start-is s S g m, level-all (clockOf s) (S .good) f g l m)
 
--- the figure of flow f: the charges picked of it × its own cost
-abbrev pub figureOf : ℕ → State → List Event → ℕ
-figureOf f s stretch = pickedOf f stretch * flowCost (flowAt (s .held) f)
-
 module _ {s : State} (c : Carried s) (f g : ℕ) (l : f < s .held .flows) (m : g < s .held .flows)
     (stretch : List Event) (run : Stretch s stretch) (waits : WaitsAtPicks f s stretch) where
   -- Nobody overdraws, over every stretch at whose every pick flow f has a packet waiting, whatever flow g does.
@@ -71,12 +67,12 @@ both-wait c f g l m stretch run here there =
     omega (arith, nobody-overdraws c f g l m stretch run here, nobody-overdraws c g f m l stretch run there)
 
 -- where a packet of flow f is told, its charge is the charge of what was picked
-for-in : (f all : ℕ) (reply : Reply) → let own = ofPacket (λ flow rest. cond (eqb flow f) all 0) reply in
+told-for : (f all : ℕ) (reply : Reply) → let own = ofPacket (λ flow rest. cond (eqb flow f) all 0) reply in
     0 < own → own ≡ all
-for-in f all idle some = absurd (omega arith)
-for-in f all (refused number flow) some = absurd (omega arith)
-for-in f all (done []) some = absurd (omega arith)
-for-in f all (done (flow ∷ rest)) some = go (eqb flow f) some
+told-for f all idle some = absurd (omega arith)
+told-for f all (refused number flow) some = absurd (omega arith)
+told-for f all (done []) some = absurd (omega arith)
+told-for f all (done (flow ∷ rest)) some = go (eqb flow f) some
   where
     go : (b : Bool) → 0 < cond b all 0 → cond b all 0 ≡ all
     go true some = refl
@@ -91,7 +87,7 @@ module _ {s : State} (c : Carried s) (f : ℕ) (l : f < s .held .flows) (waits :
   front-still = let S = carried-steady c in
       still-stretch (tableOf s) f l s stretch S refl run (charge-some s f (S .form .each f l .queue) waits)
 
-  -- While it still waits, link time has grown, with the packet's own charge n, by at most n × cost + 2Δ: by at most 3Δ.
+  -- While it still waits, link time and the ticks of its own charge n have grown by at most n × cost + 2Δ, so by 3Δ.
   pub front-waits : pickedOf f stretch ≡ 0 → let n = waitingCharge (endOf s stretch) f in
       let grown = endOf s stretch .held .link .0 + 720 * n in
       (grown ≤ s .held .link .0 + n * flowCost (flowAt (s .held) f) + 2 * s .held .width)
@@ -120,7 +116,7 @@ module _ {s : State} (c : Carried s) (f : ℕ) (l : f < s .held .flows) (waits :
         arith,
         front-waits none,
         counts .moves f .had,
-        for-in f (chargeIn o) (o .reply) left,
+        told-for f (chargeIn o) (o .reply) left,
         call-clocks end (kept .0) pick o tt gives busy .link,
       )
 

@@ -1,6 +1,7 @@
--- Demand 3, the shares. An auditor reads `Runs` (what a run is), `Shares` (what is proved of every run) and `Bites`.
+-- Demand 3, the shares. An auditor reads `Runs` (what a run is), `Shares` (what is proved of every run), `Groups` (of
+-- two flows, and of a front packet: document 02 b) and `Bites`.
 -- `Rule`: the same for document 01's own pick. `Bites`: worked runs, the 3 that cannot be 2, the charges that cannot be
--- own bytes, a stand-in that breaks it.
+-- own bytes, a stand-in that breaks it. `GroupBites`: the same for `Groups`, and that both flows have to wait.
 -- The argument, from numbers to runs. `Sum`: sums over the flows. `Own`: one flow's part of the backlog.
 -- `Keep`: the backlog and the tag bounds, kept by front, leap, serve and reset. `Start`: where a flow stands in its own
 -- time. `Bridge`: from the record to these. `Put`: one flow put anew. `Store`, `Serve`, `Idle`, `Opened`: an arrival,
@@ -10,6 +11,7 @@ pub mod Shares
 pub mod Groups
 pub mod Rule
 pub mod Bites
+pub mod GroupBites
 pub mod Sum
 pub mod Own
 pub mod Keep

@@ -6,7 +6,7 @@
 use mathlib.Core.Path.{_≡_}
 use mathlib.Core.Bool.{Bool, true, cond}
 use mathlib.Core.List.{List, [], _∷_}
-use Prim.Native.Nat.{ℕ, _+_, _-_, max, _<_}
+use Prim.Native.Nat.{ℕ, _+_, _-_, _*_, max, _<_}
 use lib.Dec.{eqb, ltb}
 use lib.ListN.{getD}
 use Rattle.cost.specs.Charge.{chargeOf, chargeTicks}
@@ -123,6 +123,10 @@ picked = total chargeIn
 -- S: the charges of the packets picked of flow f
 abbrev pub pickedOf : ℕ → List Event → ℕ
 pickedOf f = total (chargeFor f)
+
+-- the figure of flow f, "bytes charged times own cost" (document 02 b), with the costs of state s
+abbrev pub figureOf : ℕ → State → List Event → ℕ
+figureOf f s stretch = pickedOf f stretch * flowCost (flowAt (s .held) f)
 
 -- the number of leaps
 abbrev pub leapsOf : List Event → ℕ

@@ -43,21 +43,25 @@ pub front-fits : {s : State} → Carried s → (f : ℕ) → f < s .held .flows 
 front-fits {s} c f l stretch run = let kept = kept-stretch s stretch (carried-steady c) run in
     (rw (kept .1) at (kept .0 .good)) .fits f l
 
-module _ {s : State} (c : Carried s) (f : ℕ) (l : f < s .held .flows)
-    (stretch : List Event) (run : Stretch s stretch) (waits : WaitsAtPicks f s stretch) where
-  -- Demand 3, sharper, over every stretch at whose every pick flow f has a packet waiting. n is the charge of its front
-  -- packet at the end, 0 where none waits: 720 × (W + n) ≤ (S + n) × cost + 2Δ, and so ≤ S × cost + 3Δ.
-  -- Of the other flows nothing is asked.
-  pub share-with-front : let n = waitingCharge (endOf s stretch) f in
-      let cost = flowCost (flowAt (s .held) f) in
-      (720 * (picked stretch + n) ≤ (pickedOf f stretch + n) * cost + 2 * s .held .width)
-      × (720 * (picked stretch + n) ≤ pickedOf f stretch * cost + 3 * s .held .width)
-  share-with-front = let closer = share-stretch (tableOf s) f l s stretch (carried-steady c) refl run waits in
-      omega (arith, closer, front-fits c f l stretch run)
+-- Demand 3, sharper, over every stretch at whose every pick flow f has a packet waiting. n is the charge of its front
+-- packet at the end, 0 where none waits: 720 × (W + n) ≤ (S + n) × cost + 2Δ, and so ≤ S × cost + 3Δ.
+-- Of the other flows nothing is asked.
+pub share-with-front : {s : State} → Carried s → (f : ℕ) → f < s .held .flows
+    → (stretch : List Event) → Stretch s stretch → WaitsAtPicks f s stretch
+    → let n = waitingCharge (endOf s stretch) f in
+    let cost = flowCost (flowAt (s .held) f) in
+    (720 * (picked stretch + n) ≤ (pickedOf f stretch + n) * cost + 2 * s .held .width)
+    × (720 * (picked stretch + n) ≤ pickedOf f stretch * cost + 3 * s .held .width)
+share-with-front {s} c f l stretch run waits =
+    let closer = share-stretch (tableOf s) f l s stretch (carried-steady c) refl run waits in
+    omega (arith, closer, front-fits c f l stretch run)
 
-  -- Demand 3: 720 × W ≤ S × cost + 3Δ.
-  pub share : 720 * picked stretch ≤ pickedOf f stretch * flowCost (flowAt (s .held) f) + 3 * s .held .width
-  share = omega (arith, share-with-front)
+-- Demand 3: 720 × W ≤ S × cost + 3Δ, over every stretch at whose every pick flow f has a packet waiting.
+-- Of the other flows nothing is asked.
+pub share : {s : State} → Carried s → (f : ℕ) → f < s .held .flows
+    → (stretch : List Event) → Stretch s stretch → WaitsAtPicks f s stretch
+    → 720 * picked stretch ≤ pickedOf f stretch * flowCost (flowAt (s .held) f) + 3 * s .held .width
+share c f l stretch run waits = omega (arith, share-with-front c f l stretch run waits)
 
 -- The clocks, since the opening or the last Idle:
 -- clock = link time + Δ × number of leaps, and link time = 720 × the charges picked.

@@ -1,6 +1,6 @@
--- Where a flow stands in its own time. Its start is its tag less the ticks of its front packet, or the larger of tag and
--- clock where nothing waits. A packet that comes to the front moves no start, a pick moves the start of its own flow on
--- by what it charges, and the clock takes the start of a flow that does not wait with it.
+-- Where a flow stands in its own time. Its start is its tag less the ticks of its front packet, or the larger of tag
+-- and clock where nothing waits. A packet that comes to the front moves no start, a pick moves the start of its own
+-- flow on by what it charges, and the clock takes the start of a flow that does not wait with it.
 -- In numbers alone: T is a tag, n the charge of the front packet, 0 where nothing waits, and c the clock.
 -- Assumes nothing.
 use mathlib.Core.Path.{_≡_, refl, sym}
@@ -32,20 +32,10 @@ pub record Moves (cost b c T n d U m : ℕ) : Type 0 where
   -- and what is not picked stays there
   pub stays : n ≤ m + b
 
-module _ (cost c T n : ℕ) where
-  -- the clock goes on to d, and the flow stays as it is
-  moves-none : (d : ℕ) → c ≤ d → Moves cost 0 c T n d T n
-  moves-none d on =
-      record { lifts = omega arith; low = λ R h low. omega arith; had = omega arith; stays = omega arith }
-
-  -- front: a packet of charge n comes to the front, where nothing waits
-  moves-front : Moves cost 0 c T 0 c (max T c + n * cost) n
-  moves-front = record { lifts = omega arith; low = λ R h low. omega arith; had = omega arith; stays = omega arith }
-
-  -- serve: the front packet goes, and the clock goes on to d
-  moves-serve : (d : ℕ) → c ≤ d → Moves cost n c T n d T 0
-  moves-serve d on =
-      record { lifts = omega arith; low = λ R h low. omega arith; had = omega arith; stays = omega arith }
+-- such is a step that takes the start on by b from where the new clock finds it
+moves-by : {cost b c T n d U m : ℕ} → c ≤ d → max U d + n * cost ≡ max T d + m * cost + b * cost → b ≤ n → n ≤ m + b
+    → Moves cost b c T n d U m
+moves-by on start had stays = record { lifts = omega arith; low = λ R h low. omega arith; had = had; stays = stays }
 
 -- a step on which a front follows
 pub moves-then : {cost b c T n d U m W k : ℕ} → Moves cost b c T n d U m → Moves cost 0 d U m d W k
@@ -71,13 +61,13 @@ MovesAt cost f b c F d G = Moves (cost f) b c (F .tag f) (F .charge f) d (G .tag
 
 -- nothing changes
 pub same-moves : (cost : ℕ → ℕ) (c : ℕ) {F G : View} → G ≡ F → (f : ℕ) → MovesAt cost f 0 c F c G
-same-moves cost c {F} same f = rw same (moves-none (cost f) c (F .tag f) (F .charge f) c (le-refl c))
+same-moves cost c same f = rw same (moves-by (le-refl c) (omega arith) (omega arith) (omega arith))
 
 -- front: no start moves
 pub front-moves : (cost : ℕ → ℕ) (c i n : ℕ) {F G : View} → F .charge i ≡ 0
     → Change i (max (F .tag i) c + n * cost i) n F G → (f : ℕ) → MovesAt cost f 0 c F c G
 front-moves cost c i n {F} idle h = changed h (λ f U m. Moves (cost f) 0 c (F .tag f) (F .charge f) c U m)
-    (rw idle (moves-front (cost i) c (F .tag i) n)) (same-moves cost c refl)
+    (rw idle (moves-by (le-refl c) (omega arith) (omega arith) (omega arith))) (same-moves cost c refl)
 
 -- serve: the start of flow i moves on by its packet's charge
 pub serve-moves : (cost : ℕ → ℕ) (c d i : ℕ) {F G : View} → c ≤ d → Change i (F .tag i) 0 F G → (f : ℕ)
@@ -85,7 +75,7 @@ pub serve-moves : (cost : ℕ → ℕ) (c d i : ℕ) {F G : View} → c ≤ d �
 serve-moves cost c d i {F} {G} on h f = elim (ℕ-discrete f i)
     as (λ _. MovesAt cost f (cond (eqb i f) (F .charge i) 0) c F d G) [
       | yes q ↦ rw (q, h .tag-at, h .charge-at, eq-eqb i i refl)
-          (moves-serve (cost i) c (F .tag i) (F .charge i) d on)
+          (moves-by on (omega arith) (omega arith) (omega arith))
       | no q ↦ rw (h .tag-else f q, h .charge-else f q, ne-eqb i f λ e. q (sym e))
-          (moves-none (cost f) c (F .tag f) (F .charge f) d on)
+          (moves-by on (omega arith) (omega arith) (omega arith))
     ]
