@@ -22,8 +22,8 @@ use Rattle.shares.specs.Bridge.{Steady, clockOf, tableOf, viewOf, charge
 use Rattle.shares.specs.Bridge.{waits-charge, table-sound}
 use Rattle.shares.specs.Calls.{call-counts, call-busy, call-clocks}
 use Rattle.shares.specs.Stretches.{carried-steady, kept-stretch, overdraw-stretch, still-stretch, busy-stretch}
-use Rattle.shares.specs.Stretches.{clocks-stretch}
-use Rattle.shares.specs.Shares.{front-fits, share-with-front}
+use Rattle.shares.specs.Stretches.{fits-stretch, clocks-stretch}
+use Rattle.shares.specs.Shares.{share-with-front}
 
 -- a start in the words of the view: no tag that waits is below the clock
 start-is : (s : State) → Steady s → (f : ℕ) → f < s .held .flows
@@ -52,8 +52,12 @@ module _ {s : State} (c : Carried s) (f g : ℕ) (l : f < s .held .flows) (m : g
   pub nobody-overdraws : let n = waitingCharge (endOf s stretch) f in
       (figureOf g s stretch ≤ figureOf f s stretch + n * flowCost (flowAt (s .held) f) + 2 * s .held .width)
       × (figureOf g s stretch ≤ figureOf f s stretch + 3 * s .held .width)
-  nobody-overdraws = let closer = overdraw-stretch (tableOf s) f l g m s stretch (carried-steady c) refl run waits in
-      omega (arith, closer, front-fits c f l stretch run)
+  nobody-overdraws = let S = carried-steady c in
+      omega (
+        arith,
+        overdraw-stretch (tableOf s) f l g m s stretch S refl run waits,
+        fits-stretch (tableOf s) f l s stretch S refl run,
+      )
 
 -- "For two flows that both have a packet waiting at every pick of a stretch ... the two figures ... differ by at most
 -- 6Δ", and in fact by at most 3Δ, either way.

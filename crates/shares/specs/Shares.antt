@@ -17,7 +17,7 @@ use Rattle.shares.specs.Runs.{somethingWaits, Gives, Event, Stretch, end
 use Rattle.shares.specs.Runs.{pickedOf, leapsOf, waitingCharge, lastTag, WaitsAtPicks, NeverIdle}
 use Rattle.shares.specs.Bridge.{tableOf}
 use Rattle.shares.specs.Calls.{any-late, call-refused, call-in-time}
-use Rattle.shares.specs.Stretches.{carried-steady, kept-stretch, share-stretch, restarted-zeroed, clocks-stretch}
+use Rattle.shares.specs.Stretches.{carried-steady, share-stretch, fits-stretch, restarted-zeroed, clocks-stretch}
 use Rattle.shares.specs.Stretches.{last-stretch}
 
 -- The form is never lost: no carried call is refused with 1 or 2.
@@ -37,12 +37,6 @@ pub clock-in-time : {s : State} → Carried s → (o : Outcome) → Gives s pick
 clock-in-time {s} c o gives flow length handle tag leapt clock e =
     rw e at (call-in-time s (carried-steady c) pick o tt gives)
 
--- No packet is charged more than Δ, so the front packet at the end of a stretch is not.
-pub front-fits : {s : State} → Carried s → (f : ℕ) → f < s .held .flows → (stretch : List Event) → Stretch s stretch
-    → waitingCharge (endOf s stretch) f * flowCost (flowAt (s .held) f) ≤ s .held .width
-front-fits {s} c f l stretch run = let kept = kept-stretch s stretch (carried-steady c) run in
-    (rw (kept .1) at (kept .0 .good)) .fits f l
-
 -- Demand 3, sharper, over every stretch at whose every pick flow f has a packet waiting. n is the charge of its front
 -- packet at the end, 0 where none waits: 720 × (W + n) ≤ (S + n) × cost + 2Δ, and so ≤ S × cost + 3Δ.
 -- Of the other flows nothing is asked.
@@ -52,9 +46,12 @@ pub share-with-front : {s : State} → Carried s → (f : ℕ) → f < s .held .
     let cost = flowCost (flowAt (s .held) f) in
     (720 * (picked stretch + n) ≤ (pickedOf f stretch + n) * cost + 2 * s .held .width)
     × (720 * (picked stretch + n) ≤ pickedOf f stretch * cost + 3 * s .held .width)
-share-with-front {s} c f l stretch run waits =
-    let closer = share-stretch (tableOf s) f l s stretch (carried-steady c) refl run waits in
-    omega (arith, closer, front-fits c f l stretch run)
+share-with-front {s} c f l stretch run waits = let S = carried-steady c in
+    omega (
+      arith,
+      share-stretch (tableOf s) f l s stretch S refl run waits,
+      fits-stretch (tableOf s) f l s stretch S refl run,
+    )
 
 -- Demand 3: 720 × W ≤ S × cost + 3Δ, over every stretch at whose every pick flow f has a packet waiting.
 -- Of the other flows nothing is asked.

@@ -89,6 +89,12 @@ module _ (X : Table) (f : ℕ) (l : f < X .size) where
   share-stretch s xs S e run waits = let near = good-table s S e .near f l in
       omega (arith, reach-stretch (clockOf s + 2 * X .width) s xs S e run waits (omega arith))
 
+  -- that front packet is charged no more than Δ
+  pub fits-stretch : (s : State) (xs : List Event) → Steady s → tableOf s ≡ X → Stretch s xs
+      → waitingCharge (endOf s xs) f * X .cost f ≤ X .width
+  fits-stretch s xs S e run = let kept = kept-stretch s xs S run in
+      good-table (endOf s xs) (kept .0) (kept .1 ∙ e) .fits f l
+
   -- a flow that waits and is not picked waits at every pick, and at the end
   pub still-stretch : (s : State) (xs : List Event) → Steady s → tableOf s ≡ X → Stretch s xs → 0 < waitingCharge s f
       → pickedOf f xs ≡ 0 → WaitsAtPicks f s xs × (0 < waitingCharge (endOf s xs) f)
