@@ -3,7 +3,7 @@
 -- `headed` has a header (document 02 a): W and S are charges, and by the packets' own bytes demand 3 would not hold.
 -- `lazy` shows that the stand-in that keeps its books on the first pick, and afterwards only reports, breaks demand 3.
 -- Assumes nothing.
-use mathlib.Core.Path.{_≡_, refl, sym}
+use mathlib.Core.Path.{_≡_, refl, sym, ap, _∙_}
 use mathlib.Core.Bool.{Bool, true, false, cond, _&&_}
 use mathlib.Core.List.{List, [], _∷_}
 use Prim.Native.Nat.{ℕ, zero, suc, _+_, _*_, _≤_, _<_}
@@ -19,9 +19,13 @@ use Rattle.uplink.specs.State.{State, Outcome}
 use Rattle.uplink.specs.Pick.{pickRule}
 use Rattle.uplink.specs.Calls.{Call, opening, arrival, pick, start, afterCall, everyRule}
 use Rattle.shares.specs.Runs.{takeRule, Taken, valueIn, NoOpening, Event, Stretch, endOf, runOf, openingIn}
-use Rattle.shares.specs.Runs.{Carried, opened, ofPacket, total, picked, pickedOf, figureOf, WaitsAtPicks}
+use Rattle.shares.specs.Runs.{Carried, opened, ofPacket, chargeIn, chargeFor, total, picked, pickedOf, figureOf}
+use Rattle.shares.specs.Runs.{WaitsAtPicks}
+use Rattle.shares.specs.Keep.{Table}
+use Rattle.shares.specs.Bridge.{tableOf}
+use Rattle.shares.specs.Stretches.{carried-steady, kept-stretch}
 use Rattle.shares.specs.Shares.{share}
-use Rattle.shares.specs.Rule.{rule-carried, rule-share}
+use Rattle.shares.specs.Rule.{rule-stretch, rule-carried, rule-share}
 
 -- a worked run: a table and a header, the calls before the stretch, and the stretch
 pub record Worked : Type 0 where
@@ -71,49 +75,63 @@ plain-of (opening shares largest header ∷ calls) e = true-false (sym e)
 plain-of (arrival flow length handle ∷ calls) e = (tt, plain-of calls e)
 plain-of (pick ∷ calls) e = (tt, plain-of calls e)
 
--- flow f waits at every call, as a test to be computed
-abbrev waitsAll : ℕ → State → List Event → Bool
-waitsAll f s [] = true
-waitsAll f s (x ∷ xs) = ltb 0 (waitingOf (s .held) f) && waitsAll f (x .outcome .state) xs
+-- flow f waits at every call, and with what came before these are all charges and its own: a test, in one pass
+abbrev countsAll : ℕ → State → List Event → ℕ → ℕ → ℕ → ℕ → Bool
+countsAll f s [] all own W S = eqb all W && eqb own S
+countsAll f s (x ∷ xs) all own W S =
+    ltb 0 (waitingOf (s .held) f)
+    && countsAll f (x .outcome .state) xs (all + chargeIn (x .outcome)) (own + chargeFor f (x .outcome)) W S
 
 -- and what it says
-waits-of : (f : ℕ) (s : State) (xs : List Event) → waitsAll f s xs ≡ true → WaitsAtPicks f s xs
-waits-of f s [] e = tt
-waits-of f s (x ∷ xs) e = let both = both-true (ltb 0 (waitingOf (s .held) f)) _ e in
-    (λ _. ltb-true 0 _ (both .0), waits-of f (x .outcome .state) xs (both .1))
+counts-of : (f : ℕ) (s : State) (xs : List Event) (all own W S : ℕ) → countsAll f s xs all own W S ≡ true
+    → WaitsAtPicks f s xs × (all + picked xs ≡ W) × (own + pickedOf f xs ≡ S)
+counts-of f s [] all own W S e = let both = both-true (eqb all W) (eqb own S) e in
+    (tt, omega (arith, eqb-true all W (both .0)), omega (arith, eqb-true own S (both .1)))
+counts-of f s (x ∷ xs) all own W S e =
+    let both = both-true (ltb 0 (waitingOf (s .held) f)) _ e in
+    let rest = counts-of f (x .outcome .state) xs (all + chargeIn (x .outcome)) (own + chargeFor f (x .outcome)) W S
+    (both .1) in
+    ((λ _. ltb-true 0 _ (both .0), rest .0), omega (arith, rest .1), omega (arith, rest .2))
 
 -- where the opening is accepted and no other is before the stretch, the stretch begins in a carried state
-begin-carried : (w : Worked) → openingIn start (w .shares) (w .largest) (w .header) .reply ≡ done []
-    → plainAll (w .before) ≡ true → Carried (beginOf w)
-begin-carried w accepted plain =
-    rule-carried (opened start (w .shares) (w .largest) (w .header) accepted) (w .before) (plain-of (w .before) plain)
+begin-carried : (w : Worked) → Carried (openedOf w) → plainAll (w .before) ≡ true → Carried (beginOf w)
+begin-carried w c plain = rule-carried c (w .before) (plain-of (w .before) plain)
+
+-- with the table that was opened
+begin-table : (w : Worked) → Carried (openedOf w) → plainAll (w .before) ≡ true
+    → tableOf (beginOf w) ≡ tableOf (openedOf w)
+begin-table w c plain = kept-stretch (openedOf w) (runOf (openedOf w) (w .before)) (carried-steady c)
+    (rule-stretch (openedOf w) (w .before) (plain-of (w .before) plain)) .1
 
 -- what a run of the stretch shows of flow f, as a test to be computed
 abbrev showsAll : Worked → List Event → ℕ → ℕ → ℕ → ℕ → ℕ → Bool
 showsAll w run f W S cost width =
-    (plainAll (w .before) && plainAll (w .stretch) && ltb f (beginOf w .held .flows) && waitsAll f (beginOf w) run)
-    && (eqb (picked run) W && eqb (pickedOf f run) S && eqb (flowCost (flowAt (beginOf w .held) f)) cost
-    && eqb (beginOf w .held .width) width)
+    let r = openedOf w .held in
+    (plainAll (w .before) && plainAll (w .stretch) && countsAll f (beginOf w) run 0 0 W S && ltb f (r .flows))
+    && (eqb (flowCost (flowAt r f)) cost && eqb (r .width) width)
 
 -- and what it says
 pub shows-of : (w : Worked) (run : List Event) (f W S cost width : ℕ)
     → openingIn start (w .shares) (w .largest) (w .header) .reply ≡ done [] → showsAll w run f W S cost width ≡ true
     → Shows w run f W S cost width
 shows-of w run f W S cost width accepted e =
-    let asked = plainAll (w .before) && plainAll (w .stretch) && ltb f (beginOf w .held .flows)
-    && waitsAll f (beginOf w) run in
+    let r = openedOf w .held in
+    let asked = plainAll (w .before) && plainAll (w .stretch) && countsAll f (beginOf w) run 0 0 W S && ltb f (r .flows) in
     let both = both-true asked _ e in
-    let asks = four-true (plainAll (w .before)) (plainAll (w .stretch)) (ltb f (beginOf w .held .flows)) _ (both .0) in
-    let figures = four-true (eqb (picked run) W) (eqb (pickedOf f run) S) _ _ (both .1) in
+    let asks = four-true (plainAll (w .before)) (plainAll (w .stretch)) _ _ (both .0) in
+    let table = both-true (eqb (flowCost (flowAt r f)) cost) _ (both .1) in
+    let c : Carried (openedOf w) = opened start (w .shares) (w .largest) (w .header) accepted in
+    let counts = counts-of f (beginOf w) run 0 0 W S (asks .2) in
+    let same = begin-table w c (asks .0) in
     record {
-      carried = begin-carried w accepted (asks .0);
+      carried = begin-carried w c (asks .0);
       plain = plain-of (w .stretch) (asks .1);
-      counts = ltb-true _ _ (asks .2);
-      waits = waits-of f (beginOf w) run (asks .3);
-      all = eqb-true _ _ (figures .0);
-      own = eqb-true _ _ (figures .1);
-      cost-is = eqb-true _ _ (figures .2);
-      width-is = eqb-true _ _ (figures .3);
+      counts = rw (ap (λ (X : Table). X .size) same) (ltb-true _ _ (asks .3));
+      waits = counts .0;
+      all = omega (arith, counts .1);
+      own = omega (arith, counts .2);
+      cost-is = ap (λ (X : Table). X .cost f) same ∙ eqb-true _ _ (table .0);
+      width-is = ap (λ (X : Table). X .width) same ∙ eqb-true _ _ (table .1);
     }
 
 -- demand 3 speaks of what document 01's rule makes of a worked run
