@@ -22,7 +22,6 @@ use Rattle.shares.specs.Runs.{takeRule, Taken, valueIn, NoOpening, Event
 use Rattle.shares.specs.Runs.{Carried, opened, ofPacket, chargeIn, chargeFor, total, picked, pickedOf, figureOf}
 use Rattle.shares.specs.Runs.{WaitsAtPicks}
 use Rattle.shares.specs.Keep.{Table}
-use Rattle.shares.specs.Bridge.{tableOf}
 use Rattle.shares.specs.Stretches.{carried-steady, kept-stretch}
 use Rattle.shares.specs.Shares.{share}
 use Rattle.shares.specs.Rule.{rule-stretch, rule-carried, rule-share}
@@ -93,17 +92,7 @@ counts-of f s (x ∷ xs) all own W S e =
     (both .1) in
     ((λ _. ltb-true 0 _ (both .0), rest .0), omega (arith, rest .1), omega (arith, rest .2))
 
--- where the opening is accepted and no other is before the stretch, the stretch begins in a carried state
-begin-carried : (w : Worked) → Carried (openedOf w) → plainAll (w .before) ≡ true → Carried (beginOf w)
-begin-carried w c plain = rule-carried c (w .before) (plain-of (w .before) plain)
-
--- with the table that was opened
-begin-table : (w : Worked) → Carried (openedOf w) → plainAll (w .before) ≡ true
-    → tableOf (beginOf w) ≡ tableOf (openedOf w)
-begin-table w c plain = kept-stretch (openedOf w) (runOf (openedOf w) (w .before)) (carried-steady c)
-    (rule-stretch (openedOf w) (w .before) (plain-of (w .before) plain)) .1
-
--- what a run of the stretch shows of flow f, as a test to be computed
+-- what a run of the stretch shows of flow f, as a test to be computed; the table is that of the opening
 abbrev showsAll : Worked → List Event → ℕ → ℕ → ℕ → ℕ → ℕ → Bool
 showsAll w run f W S cost width =
     let r = openedOf w .held in
@@ -121,10 +110,12 @@ shows-of w run f W S cost width accepted e =
     let asks = four-true (plainAll (w .before)) (plainAll (w .stretch)) _ _ (both .0) in
     let table = both-true (eqb (flowCost (flowAt r f)) cost) _ (both .1) in
     let c : Carried (openedOf w) = opened start (w .shares) (w .largest) (w .header) accepted in
+    let before = plain-of (w .before) (asks .0) in
+    let same = kept-stretch (openedOf w) (runOf (openedOf w) (w .before)) (carried-steady c)
+    (rule-stretch (openedOf w) (w .before) before) .1 in
     let counts = counts-of f (beginOf w) run 0 0 W S (asks .2) in
-    let same = begin-table w c (asks .0) in
     record {
-      carried = begin-carried w c (asks .0);
+      carried = rule-carried c (w .before) before;
       plain = plain-of (w .stretch) (asks .1);
       counts = rw (ap (λ (X : Table). X .size) same) (ltb-true _ _ (asks .3));
       waits = counts .0;
