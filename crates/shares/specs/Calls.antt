@@ -61,7 +61,7 @@ module _ (s : State) (S : Steady s) where
   lent-true = both-of _ _ (eq-eqb _ 4096 (S .lengths-lent)) (eq-eqb _ 4096 (S .handles-lent))
 
   -- so the call goes on
-  checked-on : {o : Outcome} → checked s o ≡ o
+  pub checked-on : {o : Outcome} → checked s o ≡ o
   unfolding checked
   checked-on = rw (lent-true, formed-in (s .held) (s .lengths) (S .form))
 

@@ -7,7 +7,7 @@
 use mathlib.Core.Path.{_≡_, refl}
 use mathlib.Core.Bool.{Bool, true, _&&_}
 use mathlib.Core.List.{List, [], _∷_, _++_}
-use Prim.Native.Nat.{ℕ, _+_, _*_, _≤_, _<_}
+use Prim.Native.Nat.{ℕ, _+_, _*_, _/_, _≤_, _<_}
 use native.Mathlib.Omega.{arith}
 use lib.Dec.{eqb, ltb, lit<, lit≤}
 use lib.ListN.{replicate}
@@ -15,34 +15,37 @@ use borrow.Author.Tests.{ltb-true, eqb-true}
 use Rattle.below.specs.Truth.{four-true}
 use Rattle.uplink.specs.Flow.{flowCost}
 use Rattle.uplink.specs.Record.{flowAt, waitingOf}
-use Rattle.uplink.specs.State.{Outcome}
+use Rattle.uplink.specs.State.{State, Outcome}
 use Rattle.uplink.specs.Pick.{pickRule}
 use Rattle.uplink.specs.Calls.{Call, arrival, pick, everyRule}
-use Rattle.shares.specs.Runs.{endOf, waitingCharge, startOf, chargeFor, picked, pickedOf, figureOf, WaitsAtPicks}
+use Rattle.shares.specs.Runs.{endOf, waitingCharge, startOf, chargeFor, picked, pickedOf, figureOf, picksOf}
+use Rattle.shares.specs.Runs.{WaitsAtPicks}
 use Rattle.shares.specs.Shares.{share-with-front}
 use Rattle.shares.specs.Groups.{nobody-ahead, both-wait}
 use Rattle.shares.specs.Rule.{rule-stretch, rule-overdraws, rule-both-wait, rule-front-waits, rule-front-leaves}
 use Rattle.shares.specs.Rule.{rule-front-turns}
-use Rattle.shares.specs.Bites.{Worked, beginOf, stretchOf, boundOf, Shows, shows-of, fair, lazy, lazyStretch}
-use Rattle.shares.specs.Bites.{lazy-shows, tight, tight-shows}
+use Rattle.shares.specs.Worked.{Worked, beginOf, stretchOf, boundOf, leanBegin, leanStretch, Shows, rule-shows}
+use Rattle.shares.specs.Worked.{other-shows, by-lean}
+use Rattle.shares.specs.Bites.{fair, tight, tight-shows, lazy, lazyFrom, lazyStretch, lazy-shows}
 
 -- of flow 1 too: it waits at every pick, and its S is 3,992
 pub tight-other : Shows tight (stretchOf tight) 1 3993 3992 721 720000
 unfolding everyRule
-tight-other = shows-of tight (stretchOf tight) 1 3993 3992 721 720000 refl refl
+tight-other = rule-shows tight 1 3993 3992 721 720000 refl refl refl refl
 
 -- the starts where the stretch begins, and the charge of flow 0's front packet at its end
 pub tight-starts : (startOf (beginOf tight) 0 ≡ 1440000) × (startOf (beginOf tight) 1 ≡ 1440)
 unfolding everyRule startOf
-tight-starts = (refl, refl)
+tight-starts = by-lean tight (tight-shows .begun)
+    (λ s run. (startOf s 0 ≡ 1440000) × (startOf s 1 ≡ 1440)) (refl, refl)
 
 pub tight-front : waitingCharge (endOf (beginOf tight) (stretchOf tight)) 0 ≡ 1
 unfolding everyRule waitingCharge
-tight-front = refl
+tight-front = by-lean tight (tight-shows .begun) (λ s run. waitingCharge (endOf s run) 0 ≡ 1) refl
 
 -- nobody is far ahead: flow 0 is ahead of flow 1 by 1,438,560
 pub tight-ahead : startOf (beginOf tight) 0 ≤ startOf (beginOf tight) 1 + 2 * beginOf tight .held .width
-tight-ahead = nobody-ahead (tight-shows .carried) 0 1 (tight-shows .counts) (tight-other .counts)
+tight-ahead = nobody-ahead (tight-shows .begun .carried) 0 1 (tight-shows .counts) (tight-other .counts)
 
 -- Δ would be too few
 pub one-ahead : startOf (beginOf tight) 1 + 1 * beginOf tight .held .width < startOf (beginOf tight) 0
@@ -56,8 +59,8 @@ countedOf w f most = let n = waitingCharge (endOf (beginOf w) (stretchOf w)) f i
 -- demand 3, sharper: 720 × 3,994 are at most 2 × 720,000 + 2Δ
 pub tight-share : 720 * (picked (stretchOf tight) + waitingCharge (endOf (beginOf tight) (stretchOf tight)) 0)
     ≤ countedOf tight 0 2
-tight-share = share-with-front (tight-shows .carried) 0 (tight-shows .counts) (stretchOf tight)
-    (rule-stretch (beginOf tight) (tight .stretch) (tight-shows .plain)) (tight-shows .waits) .0
+tight-share = share-with-front (tight-shows .begun .carried) 0 (tight-shows .counts) (stretchOf tight)
+    (rule-stretch (beginOf tight) (tight .stretch) (tight-shows .begun .plain)) (tight-shows .waits) .0
 
 -- Δ would be too few
 pub one-share : countedOf tight 0 1
@@ -66,7 +69,7 @@ one-share = rw (tight-shows .all, tight-shows .own, tight-front, tight-shows .co
 
 -- nobody overdraws: 3,992 × 721 are at most 1 × 720,000 + 3Δ
 pub tight-overdraws : figureOf 1 (beginOf tight) (stretchOf tight) ≤ boundOf tight (stretchOf tight) 0 3
-tight-overdraws = rule-overdraws (tight-shows .carried) (tight .stretch) (tight-shows .plain) 0 1
+tight-overdraws = rule-overdraws (tight-shows .begun .carried) (tight .stretch) (tight-shows .begun .plain) 0 1
     (tight-shows .counts) (tight-other .counts) (tight-shows .waits)
 
 -- 2Δ would be too few
@@ -89,7 +92,7 @@ one-overdraws =
 -- both wait: the two figures differ by at most 6Δ
 pub tight-both : (figureOf 0 (beginOf tight) (stretchOf tight) ≤ boundOf tight (stretchOf tight) 1 6)
     × (figureOf 1 (beginOf tight) (stretchOf tight) ≤ boundOf tight (stretchOf tight) 0 6)
-tight-both = rule-both-wait (tight-shows .carried) (tight .stretch) (tight-shows .plain) 0 1
+tight-both = rule-both-wait (tight-shows .begun .carried) (tight .stretch) (tight-shows .begun .plain) 0 1
     (tight-shows .counts) (tight-other .counts) (tight-shows .waits) (tight-other .waits)
 
 -- flow 0's third packet of one byte is in front, far ahead, when flow 1 comes with three of 997, which go first
@@ -124,15 +127,16 @@ pub record Leaves (w : Worked) : Type 0 where
   pub end : leaving w .state .held .link .0 ≡ 2155680
 
 -- as a test to be computed
-abbrev leavesAll : Worked → Bool
-leavesAll w =
-    ltb 0 (waitingOf (beginOf w .held) 0) && ltb 0 (chargeFor 0 (leaving w)) && eqb (beginOf w .held .link .0) 1440
-    && eqb (leaving w .state .held .link .0) 2155680
+abbrev leavesAll : State → Outcome → Bool
+leavesAll s o = ltb 0 (waitingOf (s .held) 0) && ltb 0 (chargeFor 0 o) && eqb (s .held .link .0) 1440
+    && eqb (o .state .held .link .0) 2155680
 
 -- and what it says
-leaves-of : (w : Worked) → Shows w (stretchOf w) 0 2991 0 720000 720000 → leavesAll w ≡ true → Leaves w
+leaves-of : (w : Worked) → Shows w (stretchOf w) 0 2991 0 720000 720000
+    → leavesAll (leanBegin w) (pickRule (endOf (leanBegin w) (leanStretch w))) ≡ true → Leaves w
 leaves-of w shows e =
-    let four = four-true (ltb 0 (waitingOf (beginOf w .held) 0)) (ltb 0 (chargeFor 0 (leaving w))) _ _ e in
+    let same = by-lean w (shows .begun) (λ s run. leavesAll s (pickRule (endOf s run)) ≡ true) e in
+    let four = four-true (ltb 0 (waitingOf (beginOf w .held) 0)) (ltb 0 (chargeFor 0 (leaving w))) _ _ same in
     record {
       shows = shows;
       waits = ltb-true _ _ (four .0);
@@ -143,23 +147,23 @@ leaves-of w shows e =
 
 pub followed-leaves : Leaves followed
 unfolding everyRule
-followed-leaves = leaves-of followed (shows-of followed (stretchOf followed) 0 2991 0 720000 720000 refl refl) refl
+followed-leaves = leaves-of followed (rule-shows followed 0 2991 0 720000 720000 refl refl refl refl) refl
 
 pub arrived-leaves : Leaves arrived
 unfolding everyRule
-arrived-leaves = leaves-of arrived (shows-of arrived (stretchOf arrived) 0 2991 0 720000 720000 refl refl) refl
+arrived-leaves = leaves-of arrived (rule-shows arrived 0 2991 0 720000 720000 refl refl refl refl) refl
 
 module _ (w : Worked) (leaves : Leaves w) where
   -- while it still waits, link time has grown by at most 3Δ, the ticks of its own charge included
   pub late-waits : endOf (beginOf w) (stretchOf w) .held .link .0
       + 720 * waitingCharge (endOf (beginOf w) (stretchOf w)) 0 ≤ beginOf w .held .link .0 + 3 * beginOf w .held .width
   late-waits = let shows = leaves .shows in
-      rule-front-waits (shows .carried) (w .stretch) (shows .plain) 0 (shows .counts) (leaves .waits) (shows .own)
+      rule-front-waits (shows .begun .carried) (w .stretch) (shows .begun .plain) 0 (shows .counts) (leaves .waits) (shows .own)
 
   -- and so it has when it has left
   pub late-holds : leaving w .state .held .link .0 ≤ beginOf w .held .link .0 + 3 * beginOf w .held .width
   late-holds = let shows = leaves .shows in
-      rule-front-leaves (shows .carried) (w .stretch) (shows .plain) 0 (shows .counts) (leaves .waits) (shows .own)
+      rule-front-leaves (shows .begun .carried) (w .stretch) (shows .begun .plain) 0 (shows .counts) (leaves .waits) (shows .own)
       (leaves .left)
 
   -- 2Δ would be too few
@@ -180,13 +184,14 @@ soon =
 -- three packets of each flow go
 pub soon-shows : Shows soon (stretchOf soon) 0 6 3 1440 1440
 unfolding everyRule
-soon-shows = shows-of soon (stretchOf soon) 0 6 3 1440 1440 refl refl
+soon-shows = rule-shows soon 0 6 3 1440 1440 refl refl refl refl
 
 -- as at least one of flow 0 has to, six picks not having been refused
 pub soon-leaves : 0 < pickedOf 0 (stretchOf soon)
 unfolding everyRule
-soon-leaves = rule-front-turns (soon-shows .carried) (soon .stretch) (soon-shows .plain) 0 (soon-shows .counts)
-    (lit< tt) (lit≤ tt)
+soon-leaves = rule-front-turns (soon-shows .begun .carried) (soon .stretch) (soon-shows .begun .plain) 0 (soon-shows .counts)
+    (soon-shows .waits .0 refl)
+    (by-lean soon (soon-shows .begun) (λ s run. 3 * s .held .width / 720 ≤ picksOf run) (lit≤ tt))
 
 -- `fair`'s table, nine packets at flow 0 and one at flow 1
 abbrev pub quiet : Worked
@@ -202,12 +207,12 @@ quiet =
 -- flow 0 waits at every pick, and its S is 800
 pub quiet-shows : Shows quiet (stretchOf quiet) 0 900 800 1440 144000
 unfolding everyRule
-quiet-shows = shows-of quiet (stretchOf quiet) 0 900 800 1440 144000 refl refl
+quiet-shows = rule-shows quiet 0 900 800 1440 144000 refl refl refl refl
 
 -- that of flow 1 is 100, and its figure
 pub quiet-other : figureOf 1 (beginOf quiet) (stretchOf quiet) ≡ 144000
 unfolding everyRule
-quiet-other = refl
+quiet-other = by-lean quiet (quiet-shows .begun) (λ s run. figureOf 1 s run ≡ 144000) refl
 
 -- the figures differ by more than 6Δ
 pub quiet-differs : figureOf 1 (beginOf quiet) (stretchOf quiet) + 6 * beginOf quiet .held .width
@@ -217,22 +222,22 @@ quiet-differs = rw (quiet-other, quiet-shows .own, quiet-shows .cost-is, quiet-s
 -- flow 1 is one of the table's
 quiet-counts : 1 < beginOf quiet .held .flows
 unfolding everyRule
-quiet-counts = lit< tt
+quiet-counts = by-lean quiet (quiet-shows .begun) (λ s run. 1 < s .held .flows) (lit< tt)
 
 -- so flow 1 does not wait at every pick: that both wait is needed
 pub quiet-alone : WaitsAtPicks 1 (beginOf quiet) (stretchOf quiet) → ⊥
-quiet-alone waits = let stretch = rule-stretch (beginOf quiet) (quiet .stretch) (quiet-shows .plain) in
+quiet-alone waits = let stretch = rule-stretch (beginOf quiet) (quiet .stretch) (quiet-shows .begun .plain) in
     omega (
       arith,
       quiet-differs,
-      both-wait (quiet-shows .carried) 0 1 (quiet-shows .counts) quiet-counts
+      both-wait (quiet-shows .begun .carried) 0 1 (quiet-shows .counts) quiet-counts
           (stretchOf quiet) stretch (quiet-shows .waits) waits,
     )
 
 -- the stand-in that only reports: flow 1 waits at every pick, and its S is 800
 pub lazy-other : Shows lazy lazyStretch 1 900 800 1440 144000
 unfolding everyRule
-lazy-other = shows-of lazy lazyStretch 1 900 800 1440 144000 refl refl
+lazy-other = other-shows lazy 1 900 800 1440 144000 refl refl refl lazyFrom refl
 
 -- both wait, and the figures differ by more than 6Δ
 pub lazy-differs : figureOf 0 (beginOf lazy) lazyStretch + 6 * beginOf lazy .held .width

@@ -10,6 +10,7 @@ pub mod Runs
 pub mod Shares
 pub mod Groups
 pub mod Rule
+pub mod Worked
 pub mod Bites
 pub mod GroupBites
 pub mod Sum
