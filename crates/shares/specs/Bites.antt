@@ -185,4 +185,8 @@ lazy-breaks = rw (lazy-shows .all, lazy-shows .own, lazy-shows .cost-is, lazy-sh
 -- so what it gives is no stretch of a run, whatever the tie rule
 pub lazy-no-stretch : Stretch (beginOf lazy) lazyStretch → ⊥
 lazy-no-stretch run =
-    omega (arith, lazy-breaks, share (lazy-shows .begun .carried) 0 (lazy-shows .counts) lazyStretch run (lazy-shows .waits))
+    omega (
+      arith,
+      lazy-breaks,
+      share (lazy-shows .begun .carried) 0 (lazy-shows .counts) lazyStretch run (lazy-shows .waits),
+    )

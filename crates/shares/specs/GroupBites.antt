@@ -158,13 +158,14 @@ module _ (w : Worked) (leaves : Leaves w) where
   pub late-waits : endOf (beginOf w) (stretchOf w) .held .link .0
       + 720 * waitingCharge (endOf (beginOf w) (stretchOf w)) 0 ≤ beginOf w .held .link .0 + 3 * beginOf w .held .width
   late-waits = let shows = leaves .shows in
-      rule-front-waits (shows .begun .carried) (w .stretch) (shows .begun .plain) 0 (shows .counts) (leaves .waits) (shows .own)
+      rule-front-waits (shows .begun .carried) (w .stretch) (shows .begun .plain) 0 (shows .counts) (leaves .waits)
+      (shows .own)
 
   -- and so it has when it has left
   pub late-holds : leaving w .state .held .link .0 ≤ beginOf w .held .link .0 + 3 * beginOf w .held .width
   late-holds = let shows = leaves .shows in
-      rule-front-leaves (shows .begun .carried) (w .stretch) (shows .begun .plain) 0 (shows .counts) (leaves .waits) (shows .own)
-      (leaves .left)
+      rule-front-leaves (shows .begun .carried) (w .stretch) (shows .begun .plain) 0 (shows .counts) (leaves .waits)
+      (shows .own) (leaves .left)
 
   -- 2Δ would be too few
   pub two-late : beginOf w .held .link .0 + 2 * beginOf w .held .width < leaving w .state .held .link .0
@@ -189,8 +190,8 @@ soon-shows = rule-shows soon 0 6 3 1440 1440 refl refl refl refl
 -- as at least one of flow 0 has to, six picks not having been refused
 pub soon-leaves : 0 < pickedOf 0 (stretchOf soon)
 unfolding everyRule
-soon-leaves = rule-front-turns (soon-shows .begun .carried) (soon .stretch) (soon-shows .begun .plain) 0 (soon-shows .counts)
-    (soon-shows .waits .0 refl)
+soon-leaves = rule-front-turns (soon-shows .begun .carried) (soon .stretch) (soon-shows .begun .plain) 0
+    (soon-shows .counts) (soon-shows .waits .0 refl)
     (by-lean soon (soon-shows .begun) (λ s run. 3 * s .held .width / 720 ≤ picksOf run) (lit≤ tt))
 
 -- `fair`'s table, nine packets at flow 0 and one at flow 1

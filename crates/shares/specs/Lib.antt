@@ -2,6 +2,7 @@
 -- two flows, and of a front packet: document 02 b) and `Bites`.
 -- `Rule`: the same for document 01's own pick. `Bites`: worked runs, the 3 that cannot be 2, the charges that cannot be
 -- own bytes, a stand-in that breaks it. `GroupBites`: the same for `Groups`, and that both flows have to wait.
+-- `Worked`: how a worked run is computed.
 -- The argument, from numbers to runs. `Sum`: sums over the flows. `Own`: one flow's part of the backlog.
 -- `Keep`: the backlog and the tag bounds, kept by front, leap, serve and reset. `Start`: where a flow stands in its own
 -- time. `Bridge`: from the record to these. `Put`: one flow put anew. `Store`, `Serve`, `Idle`, `Opened`: an arrival,

@@ -17,8 +17,8 @@ use Rattle.uplink.specs.State.{State, Outcome}
 use Rattle.uplink.specs.Arrival.{joinRule}
 use Rattle.uplink.specs.Pick.{chooseRule}
 use Rattle.uplink.specs.Calls.{Call, opening, arrival, pick, start, afterCall}
-use Rattle.shares.specs.Runs.{NoOpening, Plain, Event, endOf, runOf, openingIn, Carried, opened, chargeIn, chargeFor}
-use Rattle.shares.specs.Runs.{picked, pickedOf, figureOf, WaitsAtPicks}
+use Rattle.shares.specs.Runs.{NoOpening, Plain, Event, endOf, runOf, openingIn, Carried, opened, chargeIn}
+use Rattle.shares.specs.Runs.{chargeFor, picked, pickedOf, figureOf, WaitsAtPicks}
 use Rattle.shares.specs.Keep.{Table}
 use Rattle.shares.specs.Bridge.{tableOf, Steady}
 use Rattle.shares.specs.Calls.{checked-on, call-keeps}
@@ -54,7 +54,7 @@ leanCall s (opening shares largest header) = afterCall s (opening shares largest
 leanCall s (arrival flow length handle) = joinRule s flow length handle
 leanCall s pick = chooseRule s
 
--- so it is on a steady state
+-- on a steady state that is what the call gives
 lean-call : (s : State) → Steady s → (call : Call) → Plain call → leanCall s call ≡ afterCall s call
 lean-call s S (opening shares largest header) plain = absurd plain
 lean-call s S (arrival flow length handle) plain = sym (checked-on s S)
@@ -178,13 +178,15 @@ module _ (w : Worked) (f W S cost width : ℕ)
     (accepted : openingIn start (w .shares) (w .largest) (w .header) .reply ≡ done [])
     (before : plainAll (w .before) ≡ true) (stretch : plainAll (w .stretch) ≡ true) where
   -- of document 01's run of the stretch
-  pub rule-shows : showsAll w (leanBegin w) (leanStretch w) f W S cost width ≡ true → Shows w (stretchOf w) f W S cost width
+  pub rule-shows : showsAll w (leanBegin w) (leanStretch w) f W S cost width ≡ true
+      → Shows w (stretchOf w) f W S cost width
   rule-shows e = let begun = begun-of w accepted before stretch in
       shows-of w (stretchOf w) f W S cost width begun
       (by-lean w begun (λ s run. showsAll w s run f W S cost width ≡ true) e)
 
   -- and of a run that a rule makes of the state in which it begins
-  pub other-shows : (runFrom : State → List Event) → showsAll w (leanBegin w) (runFrom (leanBegin w)) f W S cost width ≡ true
+  pub other-shows : (runFrom : State → List Event)
+      → showsAll w (leanBegin w) (runFrom (leanBegin w)) f W S cost width ≡ true
       → Shows w (runFrom (beginOf w)) f W S cost width
   other-shows runFrom e = let begun = begun-of w accepted before stretch in
       shows-of w (runFrom (beginOf w)) f W S cost width begun
