@@ -21,8 +21,8 @@ use Rattle.uplink.specs.Formed.{formed-in}
 use Rattle.uplink.specs.Arrival.{storeRule, joinRule}
 use Rattle.uplink.specs.Pick.{clockLimit, serveRule, idleRule}
 use Rattle.uplink.specs.Calls.{Call, opening, arrival, pick}
-use Rattle.shares.specs.Start.{behind, MovesAt, same-moves}
 use Rattle.shares.specs.Keep.{Table}
+use Rattle.shares.specs.Start.{behind, MovesAt, same-moves}
 use Rattle.shares.specs.Bridge.{flowOf, clockOf, tableOf, viewOf, IdleTags, Zeroed, Steady}
 use Rattle.shares.specs.Store.{Joins, store-steady, store-table, store-idle, store-moves}
 use Rattle.shares.specs.Serve.{serve-in-time, serve-steady, serve-table, serve-idle, serve-clock-on}
@@ -104,8 +104,9 @@ pub record Counts (X : Table) (f : ℕ) (s : State) (o : Outcome) : Type 0 where
   -- and is picked only where it is not behind flow f: by no more than its start is behind flow f's tag
   pub turn : (g : ℕ) → chargeFor g o * X .cost g
       ≤ behind (viewOf s .tag f) (X .cost g) (clockOf s) (viewOf s .tag g) (viewOf s .charge g)
-  -- a pick that was not refused charges a byte or more
+  -- a pick that was not refused charges a byte or more, and is not Idle
   pub byte : pickIn (o .reply) ≤ chargeIn o
+  pub busy : o .reply ≡ idle → ⊥
 
 -- what a reply has to do with the clocks: both go on by what was picked, and the server clock by Δ where it leapt
 pub record Clocks (s : State) (o : Outcome) : Type 0 where
@@ -146,6 +147,7 @@ module _ (s : State) (S : Steady s) (call : Call) (o : Outcome) (plain : Plain c
           moves = same-moves (tableOf s .cost) (clockOf s) refl;
           turn = λ g. omega arith;
           byte = omega arith;
+          busy = λ e. idle-refused (sym e);
         };
         stores = λ i n handle joins. record {
           clock = omega arith;
@@ -153,6 +155,7 @@ module _ (s : State) (S : Steady s) (call : Call) (o : Outcome) (plain : Plain c
           moves = store-moves s i n handle S joins;
           turn = λ g. omega arith;
           byte = omega arith;
+          busy = λ e. idle-done (sym e);
         };
         rests = λ e nobody. absurd (omega (arith, waits e, nobody f l));
         serves = λ e i small _. record {
@@ -164,18 +167,8 @@ module _ (s : State) (S : Steady s) (call : Call) (o : Outcome) (plain : Plain c
             arith,
             queue-at i (s .lengths) (flowOf s i .queue) (S .form .each i (small .counts) .queue) 0 (small .waits),
           );
+          busy = λ e. idle-done (sym e);
         };
-      }
-
-  -- and that it is not Idle
-  pub call-busy : (f : ℕ) → f < s .held .flows → (call ≡ pick → 0 < flowOf s f .queue .waiting) → o .reply ≡ idle → ⊥
-  unfolding storeRule serveRule idleRule
-  call-busy f l waits = call-ways s S call o plain gives (λ o. o .reply ≡ idle → ⊥)
-      record {
-        refuses = λ number _ e. idle-refused (sym e);
-        stores = λ i n handle joins e. idle-done (sym e);
-        rests = λ e nobody _. absurd (omega (arith, waits e, nobody f l));
-        serves = λ _ i small below e. idle-done (sym e);
       }
 
   -- no call but an opening is refused with 1 or 2

@@ -153,23 +153,33 @@ pub arrived-leaves : Leaves arrived
 unfolding everyRule
 arrived-leaves = leaves-of arrived (rule-shows arrived 0 2991 0 720000 720000 refl refl refl refl) refl
 
-module _ (w : Worked) (leaves : Leaves w) where
+-- what is said of such a packet
+pub record InTime (w : Worked) : Type 0 where
   -- while it still waits, link time has grown by at most 3Δ, the ticks of its own charge included
-  pub late-waits : endOf (beginOf w) (stretchOf w) .held .link .0
-      + 720 * waitingCharge (endOf (beginOf w) (stretchOf w)) 0 ≤ beginOf w .held .link .0 + 3 * beginOf w .held .width
-  late-waits = let shows = leaves .shows in
-      rule-front-waits (shows .begun .carried) (w .stretch) (shows .begun .plain) 0 (shows .counts) (leaves .waits)
-      (shows .own)
-
+  pub waiting : let end = endOf (beginOf w) (stretchOf w) in
+      end .held .link .0 + 720 * waitingCharge end 0 ≤ beginOf w .held .link .0 + 3 * beginOf w .held .width
   -- and so it has when it has left
-  pub late-holds : leaving w .state .held .link .0 ≤ beginOf w .held .link .0 + 3 * beginOf w .held .width
-  late-holds = let shows = leaves .shows in
-      rule-front-leaves (shows .begun .carried) (w .stretch) (shows .begun .plain) 0 (shows .counts) (leaves .waits)
-      (shows .own) (leaves .left)
-
+  pub left : leaving w .state .held .link .0 ≤ beginOf w .held .link .0 + 3 * beginOf w .held .width
   -- 2Δ would be too few
   pub two-late : beginOf w .held .link .0 + 2 * beginOf w .held .width < leaving w .state .held .link .0
-  two-late = rw (leaves .begin, leaves .end, leaves .shows .width-is) (lit< tt)
+
+late-in-time : (w : Worked) → Leaves w → InTime w
+late-in-time w leaves =
+    let shows = leaves .shows in
+    let c = shows .begun .carried in
+    let plain = shows .begun .plain in
+    record {
+      waiting = rule-front-waits c (w .stretch) plain 0 (shows .counts) (leaves .waits) (shows .own);
+      left = rule-front-leaves c (w .stretch) plain 0 (shows .counts) (leaves .waits) (shows .own) (leaves .left);
+      two-late = rw (leaves .begin, leaves .end, shows .width-is) (lit< tt);
+    }
+
+-- whichever call brought it to the front
+pub followed-in-time : InTime followed
+followed-in-time = late-in-time followed followed-leaves
+
+pub arrived-in-time : InTime arrived
+arrived-in-time = late-in-time arrived arrived-leaves
 
 -- two flows of 500 with packets of one byte: 3Δ / 720 is 6
 abbrev pub soon : Worked

@@ -20,7 +20,7 @@ use Rattle.shares.specs.Runs.{ofPacket, figureOf, waitingCharge, startOf
 use Rattle.shares.specs.Keep.{Table, in-time, level-all}
 use Rattle.shares.specs.Bridge.{Steady, clockOf, tableOf, viewOf, charge-idle, charge-waits, charge-some}
 use Rattle.shares.specs.Bridge.{waits-charge, table-sound}
-use Rattle.shares.specs.Calls.{call-counts, call-busy, call-clocks}
+use Rattle.shares.specs.Calls.{call-counts, call-clocks}
 use Rattle.shares.specs.Stretches.{carried-steady, kept-stretch, overdraw-stretch, still-stretch, busy-stretch}
 use Rattle.shares.specs.Stretches.{fits-stretch, clocks-stretch}
 use Rattle.shares.specs.Shares.{share-with-front}
@@ -115,13 +115,12 @@ module _ {s : State} (c : Carried s) (f : ℕ) (l : f < s .held .flows) (waits :
       let here : f < end .held .flows = rw (ap (λ (Y : Table). Y .size) (kept .1)) l in
       let still = waits-charge end f (front-still none .1) in
       let counts = call-counts end (kept .0) pick o tt gives f here (λ _. still) in
-      let busy = call-busy end (kept .0) pick o tt gives f here (λ _. still) in
       omega (
         arith,
         front-waits none,
         counts .moves f .had,
         told-for f (chargeIn o) (o .reply) left,
-        call-clocks end (kept .0) pick o tt gives busy .link,
+        call-clocks end (kept .0) pick o tt gives (counts .busy) .link,
       )
 
   -- It has left after at most 3Δ / 720 picks that were not refused.

@@ -107,14 +107,17 @@ backlog-low : (X : Table) (c d : ℕ) (F : View) (t : ℕ)
     → backlogBy X c F t ≤ room X (t - d)
 backlog-low X c d F t each = rw (← (sum-times (X .share) (X .size) (t - d))) (sum-le (X .size) each)
 
+-- a packet that comes to the front moves no start
+pub front-start : (cost : ℕ → ℕ) (c i n : ℕ) {F G : View} → F .charge i ≡ 0
+    → Change i (max (F .tag i) c + n * cost i) n F G
+    → (a : ℕ) → max (G .tag a) c + F .charge a * cost a ≡ max (F .tag a) c + G .charge a * cost a
+front-start cost c i n {F} idle h =
+    changed h (λ a T m. max T c + F .charge a * cost a ≡ max (F .tag a) c + m * cost a) (rw idle (omega arith))
+    (λ a. refl)
+
 module _ {X : Table} (sound : Sound X) (c i n : ℕ) {F G : View} (l : i < X .size) (g : Good X c F)
     (idle : F .charge i ≡ 0) (h : Change i (max (F .tag i) c + n * X .cost i) n F G) where
-  -- a packet that comes to the front moves no start
-  front-start : (a : ℕ) → max (G .tag a) c + F .charge a * X .cost a ≡ max (F .tag a) c + G .charge a * X .cost a
-  front-start = changed h (λ a T m. max T c + F .charge a * X .cost a ≡ max (F .tag a) c + m * X .cost a)
-      (rw idle (omega arith)) (λ a. refl)
-
-  -- and no tag that waits is below the clock
+  -- no tag that waits is below the clock
   front-ahead : (b : ℕ) → b < X .size → 0 < G .charge b → c ≤ G .tag b
   front-ahead = changed h (λ b T m. b < X .size → 0 < m → c ≤ T) (λ _ _. omega arith)
       (λ b m w. omega (arith, in-time sound c b g m w))
@@ -130,8 +133,8 @@ module _ {X : Table} (sound : Sound X) (c i n : ℕ) {F G : View} (l : i < X .si
         near = changed h (λ j T m. j < X .size → T ≤ c + 2 * X .width + m * X .cost j)
             (λ _. omega (arith, rw idle at (g .near i l))) (g .near);
         fits = changed h (λ j T m. j < X .size → m * X .cost j ≤ X .width) (λ _. fits) (g .fits);
-        level = λ a b la lb w.
-            omega (arith, level-all c g a b la lb, front-start a, front-start b, front-ahead b lb w);
+        level = λ a b la lb w. let start = front-start (X .cost) c i n idle h in
+            omega (arith, level-all c g a b la lb, start a, start b, front-ahead b lb w);
       }
 
 -- leap: every tag that waits is above c + 2Δ

@@ -11,7 +11,7 @@ use native.Mathlib.Decide.{ℕ-discrete}
 use native.Mathlib.Omega.{arith}
 use lib.Dec.{eqb}
 use borrow.Author.Tests.{eq-eqb, ne-eqb}
-use Rattle.shares.specs.Keep.{View, Change, changed}
+use Rattle.shares.specs.Keep.{View, Change, changed, front-start}
 
 -- the start is at most R, said without subtraction
 abbrev pub Low : ℕ → ℕ → ℕ → ℕ → ℕ → Type 0
@@ -66,8 +66,9 @@ same-moves cost c same f = rw same (moves-by (le-refl c) (omega arith) (omega ar
 -- front: no start moves
 pub front-moves : (cost : ℕ → ℕ) (c i n : ℕ) {F G : View} → F .charge i ≡ 0
     → Change i (max (F .tag i) c + n * cost i) n F G → (f : ℕ) → MovesAt cost f 0 c F c G
-front-moves cost c i n {F} idle h = changed h (λ f U m. Moves (cost f) 0 c (F .tag f) (F .charge f) c U m)
-    (rw idle (moves-by (le-refl c) (omega arith) (omega arith) (omega arith))) (same-moves cost c refl)
+front-moves cost c i n {F} idle h f =
+    moves-by (le-refl c) (omega (arith, front-start cost c i n idle h f)) (omega arith)
+    (changed h (λ f U m. F .charge f ≤ m + 0) (rw idle (omega arith)) (λ f. omega arith) f)
 
 -- serve: the start of flow i moves on by its packet's charge
 pub serve-moves : (cost : ℕ → ℕ) (c d i : ℕ) {F G : View} → c ≤ d → Change i (F .tag i) 0 F G → (f : ℕ)

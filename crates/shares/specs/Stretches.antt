@@ -16,7 +16,7 @@ use Rattle.shares.specs.Opened.{accepted-steady, accepted-zeroed}
 use Rattle.shares.specs.Runs.{Gives, Plain, Event, Stretch, endOf, Carried, opened, next, Restarted, idled}
 use Rattle.shares.specs.Runs.{chargeFor, picked, pickedOf, leapsOf, picksOf, waitingCharge, tagAfter, lastTagFrom}
 use Rattle.shares.specs.Runs.{WaitsAtPicks, NeverIdle}
-use Rattle.shares.specs.Calls.{Counts, call-keeps, call-counts, call-busy, call-clocks, call-last, call-idle}
+use Rattle.shares.specs.Calls.{Counts, call-keeps, call-counts, call-clocks, call-last, call-idle}
 
 -- every carried state is steady
 pub carried-steady : {s : State} → Carried s → Steady s
@@ -112,9 +112,8 @@ module _ (X : Table) (f : ℕ) (l : f < X .size) where
   busy-stretch s [] S e run waits = (tt, omega arith)
   busy-stretch s (x ∷ xs) S e run waits =
       let step = step-table s S e x (run .0) (run .1) (waits .0) in
-      let busy = call-busy s S (x .call) (x .outcome) (run .0) (run .1) f (in-table s S e) (waits .0) in
       let rest = busy-stretch (x .outcome .state) xs (step .0) (step .1) (run .2) (waits .1) in
-      ((busy, rest .0), omega (arith, step .2 .byte, rest .1))
+      ((step .2 .busy, rest .0), omega (arith, step .2 .byte, rest .1))
 
   module _ (g : ℕ) (m : g < X .size) where
     -- what is picked of flow g from now on is no more than its start is behind the reach of flow f
