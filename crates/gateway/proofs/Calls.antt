@@ -18,7 +18,7 @@ use Rattle.queues.specs.Opening.{field64}
 use Rattle.tags.specs.declared.ServerTicks.{ServerTicks}
 use Rattle.uplink.specs.PickReply.{pickReply}
 use Rattle.uplink.specs.Record.{flowAt}
-use Rattle.uplink.specs.State.{Outcome, state, outcome}
+use Rattle.reply.specs.State.{state, outcome}
 use Rattle.uplink.specs.Opening.{openingRule}
 use Rattle.uplink.specs.Arrival.{arrivalRule}
 use Rattle.uplink.specs.Pick.{pickRule}
@@ -27,28 +27,12 @@ use Rattle.uplink.specs.declared.Record.{Record}
 use Rattle.gateway.specs.Image.{wordsOf, recordOf}
 use Rattle.gateway.specs.Images.{words-of-record, rows-read}
 use Rattle.gateway.specs.Depth.{depthOf, depthReply}
-use Rattle.gateway.specs.Gateway as gateway
 use Rattle.gateway.specs.Gateway.{lending, answered, numberOf, withFlow, valuesOr}
 use Rattle.gateway.specs.Gateway.{gatewayOpening, gatewayArrival, gatewayPick, gatewayDepth}
+use Rattle.gateway.specs.Told.{number-told, values-kept, outcome-told}
 use Rattle.gateway.specs.Step.{stepWords, flowIn}
 use Rattle.gateway.proofs.Stepping.{step-whole, step-rested}
 use Rattle.gateway.proofs.Following.{Follows, arrival-follows, pick-follows}
-
--- a refusal's number is the one that the caller is told
-number-told : (why : Refusal) → replyNumber (refusal why) ≡ numberOf (refusal why)
-number-told why = rw (told why .says)
-
--- and it leaves the words of the reply
-values-kept : (why : Refusal) (words : List ℕ) → words ≡ valuesOr (refusal why) words
-values-kept why words = rw (told why .says)
-
--- an outcome as it is told to the caller, its answer, the block and the words of the reply by equations
-outcome-told : (tell : Reply → ℕ) (lent : gateway.Lent) (reply : Reply) (next : Record) (lengths handles : List ℕ)
-    (o : Outcome) → outcome reply next lengths handles ≡ o → (answer : ℕ) (block words : List ℕ) → answer ≡ tell reply
-    → block ≡ wordsOf next → words ≡ valuesOr reply (lent .reply)
-    → answered answer (lending block lengths handles words) ≡ gateway.told tell o lent
-unfolding gateway.told
-outcome-told tell lent reply next lengths handles o e answer block words a b w = rw (← e, a, b, w)
 
 -- what an outcome leaves in a block of 131 words
 module _ (block lengths handles : List ℕ) (h : length block ≡ 131) (at : Reply → ℕ) (reply : Reply) (next : Record)
@@ -78,7 +62,8 @@ module _ (shares largest : List ℕ) (header : ℕ) (block lengths handles : Lis
         ≡ gatewayOpening shares largest header (lending block lengths handles [])
     unfolding gatewayOpening
     opening-told answer a w = rw (eq-eqb (length block) 131 h)
-        (outcome-told withFlow (lending block lengths handles []) _ next lengths' handles' _ e answer block' [] a b w)
+        (outcome-told wordsOf withFlow (lending block lengths handles []) _ next lengths' handles' _ e answer block' []
+        a b w)
 
     pub opening-refused : (why : Refusal) (number flow : ℕ) → reply ≡ OpeningReply.Refused why
         → number ≡ replyNumber (refusal why) → flow ≡ replyFlow (refusal why)
@@ -114,8 +99,8 @@ module _ (flow bytes handle : ℕ) (block lengths handles : List ℕ) where
         ≡ gatewayArrival flow bytes handle (lending block lengths handles [])
     unfolding gatewayArrival
     arrival-told answer a w busy = rw (eq-eqb (length block) 131 h, ← r)
-        (outcome-told numberOf (lending block lengths handles []) _ next lengths' handles' _ e answer block' [] a
-        (b ∙ block-busy block lengths handles h (λ _. flow % 64) (arrivalReply reply) next lengths' handles' follows
+        (outcome-told wordsOf numberOf (lending block lengths handles []) _ next lengths' handles' _ e answer block' []
+        a (b ∙ block-busy block lengths handles h (λ _. flow % 64) (arrivalReply reply) next lengths' handles' follows
         busy) w)
 
     pub arrival-refused : (why : Refusal) (number : ℕ) → reply ≡ ArrivalReply.Refused why
@@ -156,8 +141,8 @@ module _ (block lengths handles reply : List ℕ) where
         → answered number (lending words lengths' handles' reply') ≡ gatewayPick (lending block lengths handles reply)
     unfolding gatewayPick
     pick-told number words reply' n b w = rw (eq-eqb (length block) 131 h, eq-eqb (length reply) 6 k, ← r)
-        (outcome-told numberOf (lending block lengths handles reply) _ next lengths' handles' _ e number words reply'
-        n b w)
+        (outcome-told wordsOf numberOf (lending block lengths handles reply) _ next lengths' handles' _ e number words
+        reply' n b w)
 
     pick-busy : (pickReply answer ≡ idle → ⊥) → block' ≡ wordsOf next
     pick-busy busy = rw (b, g)
@@ -204,7 +189,7 @@ module _ (flow : ℕ) (block reply : List ℕ) where
         → answered number (lending block [] [] reply') ≡ gatewayDepth flow (lending block [] [] reply)
     unfolding gatewayDepth
     depth-told number reply' given e n w = rw (eq-eqb (length block) 131 h, eq-eqb (length reply) 4 k)
-        (outcome-told numberOf (lending block [] [] reply) given (recordOf block) [] [] _
+        (outcome-told wordsOf numberOf (lending block [] [] reply) given (recordOf block) [] [] _
         (ap (λ a. outcome a (recordOf block) [] []) e) number block reply' n (sym (words-of-record block h)) w)
 
     -- 7: the flow is not counted, or it is none of 64

@@ -19,7 +19,8 @@ use Rattle.tags.specs.declared.LinkTicks.{LinkTicks}
 use Rattle.tags.specs.declared.ServerTicks.{ServerTicks}
 use Rattle.uplink.specs.Flow.{Flow, joinedFlow, servedFlow}
 use Rattle.uplink.specs.Record.{flowAt, tagOf, waitingOf, with, put, rested, Rows}
-use Rattle.uplink.specs.State.{State, Outcome, state, outcome, demand, unlessRefused}
+use Rattle.reply.specs.State.{state, outcome, demand, unlessRefused}
+use Rattle.uplink.specs.State.{State, Outcome}
 use Rattle.uplink.specs.Form.{formed, checked}
 use Rattle.uplink.specs.Formed.{formed-out}
 use Rattle.uplink.specs.Arrival.{storeRule, joinRule, arrivalRule}

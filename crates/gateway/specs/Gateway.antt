@@ -7,7 +7,8 @@ use Prim.Native.Nat.{ℕ, _+_, _*_, _^_}
 use lib.Dec.{eqb}
 use lib.ListN.{length}
 use Rattle.reply.specs.Reply.{Reply, idle, done, refused, replyFlow}
-use Rattle.uplink.specs.State.{State, Outcome, state}
+use Rattle.reply.specs.State.{StateOf, OutcomeOf, state}
+use Rattle.uplink.specs.State.{State}
 use Rattle.uplink.specs.Opening.{openingRule}
 use Rattle.uplink.specs.Arrival.{arrivalRule}
 use Rattle.uplink.specs.Pick.{pickRule}
@@ -50,45 +51,44 @@ valuesOr idle words = words
 valuesOr (done values) words = values
 valuesOr (refused number flow) words = words
 
--- what a rule's outcome is to the caller: its reply told as a number by `tell`, the next record's words, both memories
--- and the words of the reply. "A refusal returns the record as given (opening: the blank record) and changes no place
--- of either memory": proofs/Refusals.antt.
-unfoldable pub told : (Reply → ℕ) → Outcome → Lent → Answered
-told tell o lent =
+-- what a rule's outcome is to the caller, for any engine: its reply told as a number by `tell`, the next record by its
+-- `words`, both memories and the words of the reply. "A refusal returns the record as given (opening: the blank record)
+-- and changes no place of either memory": proofs/Refusals.antt.
+unfoldable pub told : {R : Type 0} → (R → List ℕ) → (Reply → ℕ) → OutcomeOf R → Lent → Answered
+told words tell o lent =
     answered (tell (o .reply))
-    (lending (wordsOf (o .state .held)) (o .state .lengths) (o .state .handles) (valuesOr (o .reply) (lent .reply)))
+    (lending (words (o .state .held)) (o .state .lengths) (o .state .handles) (valuesOr (o .reply) (lent .reply)))
 
 -- the call goes on where the test holds, and is refused with the number where it does not
 abbrev demand : Bool → ℕ → Lent → Answered → Answered
 demand test number lent on = cond test on (answered number lent)
 
--- the record that the block tells, with both memories
-abbrev pub held : Lent → State
-held lent = state (recordOf (lent .block)) (lent .lengths) (lent .handles)
+-- the record that the block tells, by an engine's way of reading words, with both memories
+abbrev pub heldBy : {R : Type 0} → (List ℕ → R) → Lent → StateOf R
+heldBy read lent = state (read (lent .block)) (lent .lengths) (lent .handles)
 
--- 101: the block has exactly 131 words
-abbrev blocked : Lent → Answered → Answered
-blocked lent on = demand (eqb (length (lent .block)) 131) 101 lent on
+abbrev pub held : Lent → State
+held lent = heldBy recordOf lent
+
+-- 101: the block has exactly so many words
+abbrev pub blocked : ℕ → Lent → Answered → Answered
+blocked words lent on = demand (eqb (length (lent .block)) words) 101 lent on
+
+-- 102: the reply has exactly so many words
+abbrev pub replied : ℕ → Lent → Answered → Answered
+replied words lent on = demand (eqb (length (lent .reply)) words) 102 lent on
 
 unfoldable pub gatewayOpening : List ℕ → List ℕ → ℕ → Lent → Answered
 gatewayOpening shares largest header lent =
-    blocked lent (told withFlow (openingRule shares largest header (lent .lengths) (lent .handles)) lent)
+    blocked 131 lent (told wordsOf withFlow (openingRule shares largest header (lent .lengths) (lent .handles)) lent)
 
 unfoldable pub gatewayArrival : ℕ → ℕ → ℕ → Lent → Answered
 gatewayArrival flow length handle lent =
-    blocked lent
-    (told numberOf (arrivalRule (held lent) flow length handle) lent)
+    blocked 131 lent (told wordsOf numberOf (arrivalRule (held lent) flow length handle) lent)
 
--- 102: the reply has exactly 6 words
 unfoldable pub gatewayPick : Lent → Answered
-gatewayPick lent =
-    blocked lent
-    (demand (eqb (length (lent .reply)) 6) 102 lent
-    (told numberOf (pickRule (held lent)) lent))
+gatewayPick lent = blocked 131 lent (replied 6 lent (told wordsOf numberOf (pickRule (held lent)) lent))
 
--- 102: the reply has exactly 4 words
 unfoldable pub gatewayDepth : ℕ → Lent → Answered
 gatewayDepth flow lent =
-    blocked lent
-    (demand (eqb (length (lent .reply)) 4) 102 lent
-    (told numberOf (depthRule (held lent) flow) lent))
+    blocked 131 lent (replied 4 lent (told wordsOf numberOf (depthRule (held lent) flow) lent))

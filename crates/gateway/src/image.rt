@@ -65,7 +65,7 @@ fn set_field(field: &mut [u16; 64], all: [u16; 64])
 }
 
 // The record that a block tells.
-pub(crate) fn record_of(words: &[u64]) -> Record
+pub fn record_of(words: &[u64]) -> Record
     requires { ⌜ length (now words) ≡ 131 ⌝ }
     ensures { λ r. ⌜ r ≡ recordOf (now (words .entry)) ⌝ }
 {
@@ -127,7 +127,7 @@ pub(crate) fn write_tags(tags: &[u64; 64], words: &mut [u64])
 }
 
 // The block of a record.
-pub(crate) fn write_record(r: Record, words: &mut [u64])
+pub fn write_record(r: Record, words: &mut [u64])
     requires { ⌜ length (now words) ≡ 131 ⌝ }
     ensures { λ _. ⌜ now (words .exit) ≡ wordsOf r ⌝ }
 {

@@ -18,6 +18,8 @@ ghost use Rattle.gateway.specs.Step.{flowIn};
 
 mod image;
 
+pub use image::record_of;
+pub use image::write_record;
 use reply::ArrivalReply;
 use reply::OpeningReply;
 use reply::Refusal;
@@ -47,7 +49,7 @@ const REFUSED_RECORD: u32 = 101;
 const REFUSED_REPLY: u32 = 102;
 
 // The packet to send, in a reply of six words.
-fn write_packet(
+pub fn write_packet(
     flow: u32,
     bytes: u16,
     handle: u32,

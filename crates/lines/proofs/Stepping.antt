@@ -16,7 +16,7 @@ use Rattle.uplink.specs.declared.Picked.{Picked}
 use Rattle.uplink.specs.declared.Record.{Record}
 use Rattle.reply.specs.Reply.{openingReply, arrivalReply}
 use Rattle.uplink.specs.PickReply.{pickReply}
-use Rattle.uplink.specs.State.{state, outcome}
+use Rattle.reply.specs.State.{state, outcome}
 use Rattle.uplink.specs.Opening.{openingRule}
 use Rattle.uplink.specs.Arrival.{arrivalRule}
 use Rattle.uplink.specs.Pick.{pickRule}
@@ -28,12 +28,6 @@ use Rattle.lines.specs.Output.{badLine, openingLine, arrivalLine, pickLi
 use Rattle.lines.specs.Step.{scriptState, rowStep, openingStep, arrivalStep, pickStep, scriptStep, Gives}
 
 -- the rows that count of a list of 65
-pub rows-within : (n rows : ℕ) (l : List ℕ) → n ≡ min rows 65 → length l ≡ 65 → n ≤ length l
-rows-within n rows l e h = omega arith
-
-pub rows-length : (n rows : ℕ) (l : List ℕ) → n ≡ min rows 65 → length l ≡ 65 → n ≡ length (take n l)
-rows-length n rows l e h = sym (length-take-le n l (omega arith))
-
 rows-same : (n rows : ℕ) (l : List ℕ) → n ≡ min rows 65 → length l ≡ 65 → take n l ≡ take rows l
 rows-same n rows l e h = go (ltb rows 65) refl
   where

@@ -1,9 +1,9 @@
--- Where a text ends is within the bytes, and so is the end of what is collected: what callers use.
+-- Where a text ends is within the bytes, and so is the end of what is collected; and the rows of a table that count: what callers use.
 -- Assumes nothing.
 use mathlib.Core.Path.{_≡_, refl, sym}
 use mathlib.Core.Bool.{Bool, true, false, cond}
 use mathlib.Core.List.{List, [], _∷_}
-use Prim.Native.Nat.{ℕ, suc, _+_, _^_, _≤_, _<_}
+use Prim.Native.Nat.{ℕ, suc, min, _+_, _^_, _≤_, _<_}
 use native.Mathlib.Omega.{arith}
 use lib.Dec.{eqb, leb}
 use lib.ListN.{length, take, drop, length-drop}
@@ -48,3 +48,10 @@ next-fits input at end e h l = omega (arith, line-within input at end e h)
 -- a part of a buffer from its start has the length that is asked
 pub part-length : (n : ℕ) (l : List ℕ) → n ≤ length l → n ≡ length (take n l)
 part-length n l h = sym (length-take-le n l h)
+
+-- of a table's 65 places the rows that count are a part from its start
+pub rows-within : (n rows : ℕ) (l : List ℕ) → n ≡ min rows 65 → length l ≡ 65 → n ≤ length l
+rows-within n rows l e h = omega arith
+
+pub rows-length : (n rows : ℕ) (l : List ℕ) → n ≡ min rows 65 → length l ≡ 65 → n ≡ length (take n l)
+rows-length n rows l e h = part-length n l (omega arith)

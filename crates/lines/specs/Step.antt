@@ -7,7 +7,8 @@ use Prim.Native.Nat.{ℕ, _≤_}
 use lib.Dec.{ltb}
 use lib.ListN.{length, take}
 use Rattle.reply.specs.Reply.{Reply}
-use Rattle.uplink.specs.State.{State, Outcome, state}
+use Rattle.reply.specs.State.{state}
+use Rattle.uplink.specs.State.{State, Outcome}
 use Rattle.uplink.specs.Opening.{openingRule}
 use Rattle.uplink.specs.Arrival.{arrivalRule}
 use Rattle.uplink.specs.Pick.{pickRule}

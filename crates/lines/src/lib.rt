@@ -8,6 +8,7 @@ mod text;
 mod writing;
 
 pub use reading::read;
+pub use steps::counted;
 pub use steps::start;
 pub use text::collect;
 pub use text::line_end;

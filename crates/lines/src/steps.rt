@@ -33,7 +33,7 @@ pub fn start() -> Script
 const NO_HEADER: u32 = 0;
 
 // How many rows count: there are places for 65.
-fn counted(rows: usize) -> usize
+pub fn counted(rows: usize) -> usize
     ensures { λ r. ⌜ r ≡ min rows 65 ⌝ }
 {
     if rows < 65 { rows } else { 65 }

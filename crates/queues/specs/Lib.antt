@@ -2,7 +2,7 @@
 -- `Queue`: one flow's bookings and ring of places. `Queues`: those of all flows, got and put. `Form`: when they are
 -- well formed. `Places`: the memories, joining and leaving. `Opening`: a table as it opens.
 -- `Laws`: what callers draw from these. `Openable`: what an opening that is not refused was handed. `Placed`, `Fence`:
--- what the code's own steps need.
+-- what the code's own steps need. `Checked`: refusals 1 and 2. `Ready`: what the checks leave.
 pub mod Queue
 pub mod Queues
 pub mod Form
@@ -12,3 +12,5 @@ pub mod Laws
 pub mod Placed
 pub mod Openable
 pub mod Fence
+pub mod Checked
+pub mod Ready

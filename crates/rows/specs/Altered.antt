@@ -8,7 +8,8 @@ use Rattle.reply.specs.Reply.{Reply, idle, done, refused}
 use Rattle.uplink.specs.declared.Record.{Record}
 use Rattle.uplink.specs.Flow.{flowOf}
 use Rattle.uplink.specs.Record.{flowAt, put, moved, recordOf}
-use Rattle.uplink.specs.State.{State, Outcome, outcome, state}
+use Rattle.reply.specs.State.{outcome, state}
+use Rattle.uplink.specs.State.{State, Outcome}
 use Rattle.uplink.specs.Pick.{pickRule}
 
 -- by what a reply is: Idle, done with values, or refused

@@ -13,7 +13,8 @@ use Rattle.queues.specs.Queues.{widthOf}
 use Rattle.tags.specs.Ticks.{frontTag}
 use Rattle.uplink.specs.Flow.{flowCost}
 use Rattle.uplink.specs.Record.{flowAt, tagOf, waitingOf, moved}
-use Rattle.uplink.specs.State.{State, Outcome, kept}
+use Rattle.reply.specs.State.{kept}
+use Rattle.uplink.specs.State.{State, Outcome}
 use Rattle.uplink.specs.Opening.{openingRule}
 use Rattle.uplink.specs.Arrival.{arrivalRule}
 use Rattle.uplink.specs.Pick.{serveRule, pickRule}

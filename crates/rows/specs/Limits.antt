@@ -11,7 +11,8 @@ use Rattle.queues.specs.Queue.{queueOf}
 use Rattle.uplink.specs.declared.Record.{Record}
 use Rattle.uplink.specs.Flow.{Flow, flowOf}
 use Rattle.uplink.specs.Record.{blank, put, recordOf}
-use Rattle.uplink.specs.State.{State, state}
+use Rattle.reply.specs.State.{state}
+use Rattle.uplink.specs.State.{State}
 use Rattle.uplink.specs.Calls.{Call, opening, arrival, pick}
 use Rattle.rows.specs.Script.{run, replies}
 use Rattle.rows.specs.Examples.{pair}

@@ -11,7 +11,8 @@ use Rattle.below.specs.Truth.{apart}
 use Rattle.reply.specs.Reply.{Reply, idle, done, refused}
 use Rattle.uplink.specs.declared.Record.{Record}
 use Rattle.uplink.specs.Record.{blank, waitingOf, moved}
-use Rattle.uplink.specs.State.{State, Outcome, outcome}
+use Rattle.reply.specs.State.{outcome}
+use Rattle.uplink.specs.State.{State, Outcome}
 use Rattle.uplink.specs.Opening.{openingRule}
 use Rattle.uplink.specs.Arrival.{arrivalRule}
 use Rattle.uplink.specs.Pick.{leapt, serveRule, pickRule}

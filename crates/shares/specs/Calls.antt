@@ -15,7 +15,8 @@ use Rattle.tags.specs.Ticks.{leaps, leapClock}
 use Rattle.tags.specs.Choice.{Smallest}
 use Rattle.tags.specs.Chosen.{leads}
 use Rattle.uplink.specs.Record.{tagOf, waitingOf, put}
-use Rattle.uplink.specs.State.{State, Outcome, demand, kept, unlessRefused}
+use Rattle.reply.specs.State.{demand, kept, unlessRefused}
+use Rattle.uplink.specs.State.{State, Outcome}
 use Rattle.uplink.specs.Form.{checked}
 use Rattle.uplink.specs.Formed.{formed-in}
 use Rattle.uplink.specs.Arrival.{storeRule, joinRule}

@@ -7,7 +7,8 @@ use Rattle.queues.specs.Laws.{queue-in}
 use Rattle.tags.specs.Laws.{tag-idle-in}
 use Rattle.uplink.specs.Flow.{untagged}
 use Rattle.uplink.specs.Record.{rested, rested-at, rested-rows}
-use Rattle.uplink.specs.State.{State, state}
+use Rattle.reply.specs.State.{state}
+use Rattle.uplink.specs.State.{State}
 use Rattle.uplink.specs.Formed.{Formed, FlowFormed, spare-flow, no-flow-spare}
 use Rattle.shares.specs.Keep.{reset-good}
 use Rattle.shares.specs.Bridge.{flowOf, Steady, Zeroed, tableOf, charge-idle}

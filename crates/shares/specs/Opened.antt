@@ -17,10 +17,11 @@ use Rattle.queues.specs.Laws.{ranged-in, queue-in, zeros-at, opened-at, opened-
 use Rattle.queues.specs.Openable.{Openable, openable}
 use Rattle.tags.specs.Laws.{tag-idle-in}
 use Rattle.uplink.specs.Flow.{flowOf, spareFlow}
-use Rattle.uplink.specs.Record.{flowAt, tagOf, waitingOf, rested-at}
-use Rattle.uplink.specs.State.{State, state}
+use Rattle.uplink.specs.Record.{blank, flowAt, tagOf, waitingOf, rested-at}
+use Rattle.reply.specs.State.{state, openedBy, opened-reply}
+use Rattle.uplink.specs.State.{State}
 use Rattle.uplink.specs.Formed.{Formed, FlowFormed, no-flow-spare}
-use Rattle.uplink.specs.Opening.{newRecord, openedBy, openingRule, opened-reply}
+use Rattle.uplink.specs.Opening.{newRecord, openingRule}
 use Rattle.uplink.specs.declared.Record.{Record}
 use Rattle.shares.specs.Runs.{openingIn}
 use Rattle.shares.specs.Keep.{reset-good}
@@ -41,9 +42,9 @@ module _ (shares largest : List ℕ) (header : ℕ) where
   unfolding openingRule
   accepted-out lengths handles e =
       let reply = listsReply shares largest header lengths handles in
-      let all : reply ≡ done [] = sym (opened-reply reply shares largest header lengths handles) ∙ e in (
+      let all : reply ≡ done [] = sym (opened-reply reply new blank lengths handles) ∙ e in (
         openable shares largest header lengths handles all,
-        ap (λ given. openedBy given shares largest header lengths handles .state) all,
+        ap (λ given. openedBy given new blank lengths handles .state) all,
       )
 
   -- flow f as it opens
@@ -169,5 +170,5 @@ pub opening-late : (s : State) (shares largest : List ℕ) (header : ℕ) → le
 unfolding openingRule listsReply
 opening-late s shares largest header e =
     let reply = listsReply shares largest header (s .lengths) (s .handles) in
-    rw (opened-reply reply shares largest header (s .lengths) (s .handles), e)
+    rw (opened-reply reply (newRecord shares largest header) blank (s .lengths) (s .handles), e)
     (late-on (paired shares largest header) (tableReply shares largest) 3 0 (omega arith) (table-late shares largest))

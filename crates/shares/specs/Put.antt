@@ -19,7 +19,8 @@ use Rattle.queues.specs.Form.{ranged, queueFormed}
 use Rattle.queues.specs.Laws.{queue-at, queue-in, place-other}
 use Rattle.uplink.specs.Flow.{Flow}
 use Rattle.uplink.specs.Record.{moved, put, Rows, put-here, put-else, put-rows}
-use Rattle.uplink.specs.State.{State, state}
+use Rattle.reply.specs.State.{state}
+use Rattle.uplink.specs.State.{State}
 use Rattle.uplink.specs.Form.{clockEnd}
 use Rattle.uplink.specs.Formed.{Formed}
 use Rattle.uplink.specs.declared.Record.{Record}

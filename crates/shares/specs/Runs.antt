@@ -14,7 +14,8 @@ use Rattle.reply.specs.Reply.{Reply, idle, done, refused}
 use Rattle.tags.specs.Choice.{Smallest}
 use Rattle.uplink.specs.Flow.{flowCost}
 use Rattle.uplink.specs.Record.{flowAt, tagOf, waitingOf}
-use Rattle.uplink.specs.State.{State, Outcome, demand}
+use Rattle.reply.specs.State.{demand}
+use Rattle.uplink.specs.State.{State, Outcome}
 use Rattle.uplink.specs.Form.{checked}
 use Rattle.uplink.specs.Opening.{openingRule}
 use Rattle.uplink.specs.Arrival.{arrivalRule}
@@ -98,12 +99,18 @@ ofPacket figure (done []) = 0
 ofPacket figure (done (flow ∷ rest)) = figure flow rest
 
 -- the charge of what was picked: the length that the reply tells, plus the header that the record keeps
+abbrev pub chargeTold : ℕ → Reply → ℕ
+chargeTold header reply = ofPacket (λ flow rest. chargeOf header (getD rest 0 0)) reply
+
 abbrev pub chargeIn : Outcome → ℕ
-chargeIn o = ofPacket (λ flow rest. chargeOf (o .state .held .header) (getD rest 0 0)) (o .reply)
+chargeIn o = chargeTold (o .state .held .header) (o .reply)
 
 -- and its charge where it is of flow f
+abbrev pub chargeToldFor : ℕ → ℕ → Reply → ℕ
+chargeToldFor f header reply = ofPacket (λ flow rest. cond (eqb flow f) (chargeTold header reply) 0) reply
+
 abbrev pub chargeFor : ℕ → Outcome → ℕ
-chargeFor f o = ofPacket (λ flow rest. cond (eqb flow f) (chargeIn o) 0) (o .reply)
+chargeFor f o = chargeToldFor f (o .state .held .header) (o .reply)
 
 -- the k-th value of a reply that is done: of a pick's, 1 is the length, 3 the tag, 4 is 1 where it leapt, 5 the clock
 abbrev pub valueIn : ℕ → Reply → ℕ

@@ -3,10 +3,9 @@
 use mathlib.Core.Path.{_≡_, sym, ap, _∙_}
 use mathlib.Core.Bool.{Bool, false, not, cond}
 use mathlib.Core.List.{List}
-use Prim.Native.Nat.{ℕ, _+_, _^_, _≤_, _<_}
-use native.Mathlib.Omega.{arith}
+use Prim.Native.Nat.{ℕ, _+_}
 use lib.Dec.{eqb}
-use lib.ListN.{length, set}
+use lib.ListN.{set}
 use lib.Seq.{set-getD}
 use borrow.Author.Tests.{eq-eqb, ne-eqb}
 use Rattle.cost.specs.Cost.{costs, costOf}
@@ -18,30 +17,18 @@ use Rattle.reply.specs.declared.Refusal.{Refusal}
 use Rattle.queues.specs.Queue.{placeOf}
 use Rattle.queues.specs.Queues.{queuesOf, put-joined}
 use Rattle.queues.specs.Places.{lent}
-use Rattle.queues.specs.Laws.{ranged-out, join-done}
+use Rattle.queues.specs.Checked.{both-lent}
 use Rattle.tags.specs.Ticks.{ticks, frontTag}
 use Rattle.tags.specs.declared.ServerTicks.{ServerTicks}
 use Rattle.uplink.specs.Flow.{joinedFlow, flowCost}
 use Rattle.uplink.specs.Record.{flowAt, tagOf, waitingOf, with, tagsOf, put}
-use Rattle.uplink.specs.State.{Outcome, state, outcome}
+use Rattle.reply.specs.State.{state, outcome}
+use Rattle.uplink.specs.State.{Outcome}
 use Rattle.uplink.specs.Form.{formed}
-use Rattle.uplink.specs.Formed.{tag-fits}
 use Rattle.uplink.specs.Arrival.{joining, storeRule, joinRule, arrivalRule}
+use Rattle.uplink.specs.Ready.{Stored, stored}
 use Rattle.uplink.specs.declared.Record.{Record}
-use Rattle.uplink.proofs.Checking.{both-lent, was-formed, checked-on}
-
--- what the checks leave where a packet of n bytes is stored at flow f
-pub record Storable (r : Record) (f n : ℕ) (table lengths handles : List ℕ) : Type 0 where
-  pub flow : f < 64
-  pub lengths-lent : length lengths ≡ 4096
-  pub handles-lent : length handles ≡ 4096
-  pub room : waitingOf r f < 64
-  pub short : n ≤ 1500
-  pub share-low : 1 ≤ flowAt r f .queue .share
-  pub share-high : flowAt r f .queue .share ≤ 1000
-  pub table-right : table ≡ costs
-  pub tag : tagOf r f < 2 ^ 63
-  pub clock : r .clock .0 < 2 ^ 63
+use Rattle.uplink.proofs.Checking.{was-formed, checked-on}
 
 module _ (r : Record) (lengths handles : List ℕ) (f n handle : ℕ) (a : Bool) (l : a ≡ lent lengths handles)
     (lends : not a ≡ false) (b : Bool) (e : b ≡ formed r lengths) (fine : not b ≡ false) (reply : ArrivalReply)
@@ -59,25 +46,10 @@ module _ (r : Record) (lengths handles : List ℕ) (f n handle : ℕ) (a : Bool)
   arrived-refused why d = arrived-on _ (rw (← j, d, told why .says))
 
   module _ (d : reply ≡ ArrivalReply.Done) where
-    pub storable : (table : List ℕ) → table ≡ costs → Storable r f n table lengths handles
-    storable table right =
-        let lend = both-lent lengths handles a l lends in
-        let F = was-formed r lengths b e fine in
-        let w = flowAt r f .queue in
-        let J = join-done (r .flows) f n (w .largest) (w .waiting) (sym j ∙ ap arrivalReply d) in
-        let R = ranged-out w (F .each f (J .counted) .range) in
-        record {
-          flow = omega (arith, F .few, J .counted);
-          lengths-lent = lend .0;
-          handles-lent = lend .1;
-          room = J .room;
-          short = omega (arith, J .short, R .largest-high);
-          share-low = R .share-low;
-          share-high = R .share-high;
-          table-right = right;
-          tag = tag-fits r lengths F f (J .counted);
-          clock = omega (arith, F .clock);
-        }
+    pub taken : (table : List ℕ) → table ≡ costs → Stored r f n table lengths handles
+    taken table right =
+        stored r f table lengths handles right (both-lent lengths handles a l lends) (was-formed r lengths b e fine) n
+        (sym j ∙ ap arrivalReply d)
 
     -- the packet is taken
     taken-on : (o : Outcome) → o ≡ storeRule (state r lengths handles) f n handle

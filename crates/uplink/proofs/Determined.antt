@@ -2,19 +2,16 @@
 -- reply, the same record and the same numbers in every place of both memories. Each is said on the contract itself, so
 -- it cannot drift from it.
 -- Assumes nothing.
-use mathlib.Core.Path.{_≡_, sym, ap, ap₂, _∙_}
-use mathlib.Core.List.{List}
-use Prim.Native.Nat.{ℕ}
+use mathlib.Core.Path.{_≡_, sym, _∙_}
 use contract.Lifetimes.{Lfts}
 use borrow.Fn.World.{ArgsD, ResD}
 use borrow.Fn.Kinds.{endedOf}
 use denote.Triple.Clauses.{AtExit}
 use denote.Ref.{now}
-use Rattle.reply.specs.Reply.{Reply, openingReply, arrivalReply}
+use Rattle.reply.specs.Reply.{openingReply, arrivalReply}
 use Rattle.reply.specs.Replies.{opening-reply-one, arrival-reply-one}
-use Rattle.uplink.specs.declared.Record.{Record}
 use Rattle.uplink.specs.PickReply.{pickReply, pick-reply-one}
-use Rattle.uplink.specs.State.{Outcome, outcome}
+use Rattle.reply.specs.State.{outcome-one}
 use Rattle.uplink.proofs.Record.opening as opening
 use Rattle.uplink.proofs.Record.opening.Kinds as opening-kinds
 use Rattle.uplink.proofs.Record.opening.Reads as opening-reads
@@ -25,23 +22,12 @@ use Rattle.uplink.proofs.Record.pick as pick
 use Rattle.uplink.proofs.Record.pick.Kinds as pick-kinds
 use Rattle.uplink.proofs.Record.pick.Reads as pick-reads
 
--- an outcome in the paper's numbers tells the answer, the record and both memories
-one : {A B : Type 0} (give : A → Reply) (made : Record → A → B) → ((a b : A) → give a ≡ give b → a ≡ b)
-    → (a b : A) (r q : Record) (lengths handles lengths' handles' : List ℕ)
-    → outcome (give a) r lengths handles ≡ outcome (give b) q lengths' handles'
-    → (made r a ≡ made q b) × (lengths ≡ lengths') × (handles ≡ handles')
-one give made same a b r q lengths handles lengths' handles' e = (
-  ap₂ made (ap (λ (o : Outcome). o .state .held) e) (same a b (ap (λ (o : Outcome). o .reply) e)),
-  ap (λ (o : Outcome). o .state .lengths) e,
-  ap (λ (o : Outcome). o .state .handles) e,
-)
-
 pub opening-determined : (κs : Lfts 4) (a : ArgsD opening.signature κs) (r q : ResD opening.signature κs)
     (s t : AtExit (endedOf 4 opening-kinds.ps opening-kinds.r) κs)
     → opening-reads.Post κs a r s → opening-reads.Post κs a q t
     → (r ≡ q) × (now (s .1 .1 .1 .0) ≡ now (t .1 .1 .1 .0)) × (now (s .1 .1 .1 .1 .0) ≡ now (t .1 .1 .1 .1 .0))
 opening-determined κs a r q s t e f =
-    one openingReply (λ next reply. record { next = next; reply = reply }) opening-reply-one
+    outcome-one openingReply (λ next reply. record { next = next; reply = reply }) opening-reply-one
     (r .reply) (q .reply) (r .next) (q .next) _ _ _ _ (e ∙ sym f)
 
 pub arrival-determined : (κs : Lfts 2) (a : ArgsD arrival.signature κs) (r q : ResD arrival.signature κs)
@@ -51,7 +37,7 @@ pub arrival-determined : (κs : Lfts 2) (a : ArgsD arrival.signature κs) (r q :
     × (now (s .1 .1 .1 .1 .0) ≡ now (t .1 .1 .1 .1 .0))
     × (now (s .1 .1 .1 .1 .1 .0) ≡ now (t .1 .1 .1 .1 .1 .0))
 arrival-determined κs a r q s t e f =
-    one arrivalReply (λ next reply. record { next = next; reply = reply }) arrival-reply-one
+    outcome-one arrivalReply (λ next reply. record { next = next; reply = reply }) arrival-reply-one
     (r .reply) (q .reply) (r .next) (q .next) _ _ _ _ (e ∙ sym f)
 
 pub pick-determined : (κs : Lfts 2) (a : ArgsD pick.signature κs) (r q : ResD pick.signature κs)
@@ -59,5 +45,5 @@ pub pick-determined : (κs : Lfts 2) (a : ArgsD pick.signature κs) (r q : ResD 
     → pick-reads.Post κs a r s → pick-reads.Post κs a q t
     → (r ≡ q) × (now (s .1 .0) ≡ now (t .1 .0)) × (now (s .1 .1 .0) ≡ now (t .1 .1 .0))
 pick-determined κs a r q s t e f =
-    one pickReply (λ next reply. record { next = next; reply = reply }) pick-reply-one
+    outcome-one pickReply (λ next reply. record { next = next; reply = reply }) pick-reply-one
     (r .reply) (q .reply) (r .next) (q .next) _ _ _ _ (e ∙ sym f)

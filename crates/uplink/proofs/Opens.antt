@@ -15,7 +15,7 @@ use Rattle.queues.specs.Opening.{newQueues, listsReply}
 use Rattle.queues.specs.Openable.{Openable, openable}
 use Rattle.queues.specs.declared.Queues.{Queues}
 use Rattle.uplink.specs.Record.{blank}
-use Rattle.uplink.specs.State.{outcome}
+use Rattle.reply.specs.State.{outcome}
 use Rattle.uplink.specs.Opening.{newRecord, openingRule}
 use Rattle.uplink.specs.declared.Record.{Record}
 

@@ -6,7 +6,7 @@ use mathlib.Core.List.{List}
 use Prim.Native.Nat.{ℕ, _+_, _-_, _%_, _^_, _≤_, _<_}
 use native.Mathlib.Omega.{arith}
 use lib.Dec.{ltb}
-use lib.ListN.{length, getD, set}
+use lib.ListN.{getD, set}
 use lib.Seq.{set-getD}
 use borrow.Author.Tests.{not-true, not-false, le-ltb, lt-ltb}
 use Rattle.cost.specs.Cost.{costs, costOf}
@@ -15,7 +15,7 @@ use Rattle.reply.specs.Reply.{idle, refused, packet}
 use Rattle.queues.specs.Queue.{placeOf}
 use Rattle.queues.specs.Queues.{queuesOf, put-left}
 use Rattle.queues.specs.Places.{lent, freedOf}
-use Rattle.queues.specs.Laws.{ranged-out, queue-at}
+use Rattle.queues.specs.Checked.{both-lent}
 use Rattle.queues.specs.declared.places.Freed.{Freed}
 use Rattle.tags.specs.Ticks.{ticks, leapRule, frontTag}
 use Rattle.tags.specs.Chosen.{Leads, leads, Tagged}
@@ -26,13 +26,15 @@ use Rattle.tags.specs.declared.choice.Lead.{Lead}
 use Rattle.tags.specs.declared.steps.Leapt.{Leapt}
 use Rattle.uplink.specs.Flow.{servedFlow, flowCost}
 use Rattle.uplink.specs.Record.{flowAt, tagOf, waitingOf, with, tagsOf, linkTime, rested, put}
-use Rattle.uplink.specs.State.{Outcome, state, outcome}
+use Rattle.reply.specs.State.{state, outcome}
+use Rattle.uplink.specs.State.{Outcome}
 use Rattle.uplink.specs.Form.{formed}
-use Rattle.uplink.specs.Formed.{tag-fits, width-most}
+use Rattle.uplink.specs.Formed.{tag-fits}
 use Rattle.uplink.specs.Pick.{clockLimit, leadOf, serveRule, idleRule, chooseRule, pickRule, goneOf}
+use Rattle.uplink.specs.Ready.{Leaves, leaves}
 use Rattle.uplink.specs.declared.Record.{Record}
 use Rattle.uplink.specs.declared.pick.Gone.{Gone}
-use Rattle.uplink.proofs.Checking.{both-lent, was-formed, checked-on}
+use Rattle.uplink.proofs.Checking.{was-formed, checked-on}
 
 abbrev goneBy : Freed → ServerTicks → LinkTicks → ℕ → Gone
 goneBy freed clock link sent =
@@ -68,23 +70,6 @@ pub gone-most : (gone : Gone) (header f first clock link : ℕ) (lengths handles
     → gone .clock .0 ≤ clock + 1126080
 gone-most gone header f first clock link lengths handles e l h = rw e (omega (arith, l, h))
 
--- what the checks leave where the front packet of the flow that leads goes
-pub record Servable (r : Record) (lead : Lead) (table lengths handles : List ℕ) : Type 0 where
-  pub flow : lead .flow < 64
-  pub lengths-lent : length lengths ≡ 4096
-  pub handles-lent : length handles ≡ 4096
-  pub first-below : flowAt r (lead .flow) .queue .first < 64
-  pub waits : 0 < waitingOf r (lead .flow)
-  pub short : getD lengths (placeOf (lead .flow) (flowAt r (lead .flow) .queue .first) 0) 0 ≤ 1500
-  pub share-low : 1 ≤ flowAt r (lead .flow) .queue .share
-  pub share-high : flowAt r (lead .flow) .queue .share ≤ 1000
-  pub table-right : table ≡ costs
-  pub tag : lead .tag .0 < 2 ^ 63
-  pub clock : r .clock .0 < 2 ^ 62
-  pub link : r .link .0 < 2 ^ 62
-  pub width : r .width ≤ 1126080000
-  pub header : r .header ≤ 64
-
 module _ (r : Record) (lengths handles : List ℕ) (a : Bool) (l : a ≡ lent lengths handles) (lends : not a ≡ false)
     (b : Bool) (e : b ≡ formed r lengths) (fine : not b ≡ false) where
   -- no tag of a flow that counts stands for none
@@ -117,30 +102,15 @@ module _ (r : Record) (lengths handles : List ℕ) (a : Bool) (l : a ≡ lent le
       own = leader .own (not-false (lead .waits) w)
 
       module _ (soon : r .clock .0 < clockLimit) where
-        pub servable : (table : List ℕ) → table ≡ costs → Servable r lead table lengths handles
-        servable table right =
-            let lend = both-lent lengths handles a l lends in
-            let F = was-formed r lengths b e fine in
-            let chosen = leader .smallest (not-false (lead .waits) w) in
-            let each = F .each (lead .flow) (chosen .counts) in
-            let R = ranged-out (flowAt r (lead .flow) .queue) (each .range) in
-            let front = queue-at (lead .flow) lengths (flowAt r (lead .flow) .queue) (each .queue) 0 (chosen .waits) in
-            record {
-              flow = omega (arith, F .few, chosen .counts);
-              lengths-lent = lend .0;
-              handles-lent = lend .1;
-              first-below = R .first-below;
-              waits = chosen .waits;
-              short = omega (arith, front .1, R .largest-high);
-              share-low = R .share-low;
-              share-high = R .share-high;
-              table-right = right;
-              tag = omega (arith, tag-fits r lengths F (lead .flow) (chosen .counts), own);
-              clock = soon;
-              link = omega (arith, F .link);
-              width = width-most r lengths F;
-              header = F .header;
-            }
+        pub leaving : (table : List ℕ) → table ≡ costs → Leaves r (lead .flow) table lengths handles
+        leaving table right = let chosen = leader .smallest (not-false (lead .waits) w) in
+            leaves r (lead .flow) table lengths handles right (both-lent lengths handles a l lends)
+            (was-formed r lengths b e fine) (chosen .counts) (chosen .waits) soon
+
+        -- its tag is the leader's
+        pub led-tag : lead .tag .0 < 2 ^ 63
+        led-tag = let chosen = leader .smallest (not-false (lead .waits) w) in
+            omega (arith, tag-fits r lengths (was-formed r lengths b e fine) (lead .flow) (chosen .counts), own)
 
         -- the front packet goes
         served-on : (o : Outcome) → o ≡ serveRule (state r lengths handles) (lead .flow)

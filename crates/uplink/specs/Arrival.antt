@@ -9,7 +9,8 @@ use Rattle.queues.specs.Queue.{placeOf}
 use Rattle.queues.specs.Places.{joinReply}
 use Rattle.uplink.specs.Flow.{joinedFlow, flowCost}
 use Rattle.uplink.specs.Record.{flowAt, put}
-use Rattle.uplink.specs.State.{State, Outcome, outcome, unlessRefused}
+use Rattle.reply.specs.State.{outcome, unlessRefused}
+use Rattle.uplink.specs.State.{State, Outcome}
 use Rattle.uplink.specs.Form.{checked}
 
 -- "The packet goes behind the flow's last one."

@@ -14,7 +14,8 @@ use Rattle.tags.specs.Form.{tagFormed, tagsFormed}
 use Rattle.tags.specs.Choice.{ahead, leadBy}
 use Rattle.uplink.specs.Flow.{spareFlow, joinedFlow, servedFlow}
 use Rattle.uplink.specs.Record.{blank, put}
-use Rattle.uplink.specs.State.{State, Outcome, state}
+use Rattle.reply.specs.State.{state}
+use Rattle.uplink.specs.State.{State, Outcome}
 use Rattle.uplink.specs.Form.{clocksFormed, restSpare, formed, checked}
 use Rattle.uplink.specs.Opening.{newRecord, openingRule}
 use Rattle.uplink.specs.Arrival.{storeRule, joinRule, arrivalRule}

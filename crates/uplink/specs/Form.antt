@@ -7,11 +7,11 @@ use Prim.Native.Nat.{ℕ, _+_, _^_}
 use lib.Dec.{leb, ltb}
 use Rattle.below.specs.Below.{allBelow}
 use Rattle.queues.specs.Form.{counts, tabled, queuesFormed}
-use Rattle.queues.specs.Places.{lent}
+use Rattle.queues.specs.Checked.{checkedBy}
 use Rattle.tags.specs.Form.{tagsFormed}
 use Rattle.uplink.specs.Flow.{spareFlow}
 use Rattle.uplink.specs.Record.{flowAt, tagOf, waitingOf}
-use Rattle.uplink.specs.State.{State, Outcome, demand}
+use Rattle.uplink.specs.State.{State, Outcome}
 use Rattle.uplink.specs.declared.Record.{Record}
 
 -- 02 a): "the record's clock limit 2^62 + 1,127,206,080": a pick below 2^62 adds at most one leap and one charge
@@ -37,4 +37,4 @@ formed r lengths =
 
 -- refusals 1 and 2, with which every call on a record begins; then the call goes on
 unfoldable pub checked : State → Outcome → Outcome
-checked s on = demand (lent (s .lengths) (s .handles)) 1 s (demand (formed (s .held) (s .lengths)) 2 s on)
+checked s on = checkedBy (formed (s .held) (s .lengths)) s on

@@ -4,7 +4,7 @@
 use mathlib.Core.Path.{_≡_, refl}
 use mathlib.Core.Bool.{Bool, true, false, _&&_}
 use mathlib.Core.List.{List}
-use Prim.Native.Nat.{ℕ, _^_, _≤_, _<_}
+use Prim.Native.Nat.{ℕ, _+_, _^_, _≤_, _<_}
 use native.Mathlib.Omega.{arith}
 use lib.Dec.{leb, eqb}
 use borrow.Author.Tests.{leb-true, ltb-true, eqb-true, le-leb, lt-ltb, eq-eqb, ltb-false, le-ltb}
@@ -106,7 +106,8 @@ width-most r lengths F =
     )
 
 -- no tag of a well-formed record is near the end of 64 bits
-pub tag-fits : (r : Record) (lengths : List ℕ) → Formed r lengths → (f : ℕ) → f < r .flows → tagOf r f < 2 ^ 63
+pub tag-fits : (r : Record) (lengths : List ℕ) → Formed r lengths → (f : ℕ) → f < r .flows
+    → tagOf r f < 2 ^ 62 + 2 ^ 33
 tag-fits r lengths F f h =
     omega (
       arith,

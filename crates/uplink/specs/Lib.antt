@@ -2,7 +2,7 @@
 -- `Flow`: one flow, its tag and its queue. `Record`: the record's words, a flow got and a flow put. `PickReply`: the
 -- paper's values for a pick's answer. `State`: what a call is given and what it gives back.
 -- `Form`: when a record is well formed. `Opening`, `Arrival`, `Pick`: the rules of the three calls. `Calls`: the three
--- as one. `Formed`: what callers draw from the form.
+-- as one. `Formed`: what callers draw from the form. `Ready`: what the checks leave where a call goes on.
 pub mod Flow
 pub mod Record
 pub mod PickReply
@@ -12,4 +12,5 @@ pub mod Formed
 pub mod Opening
 pub mod Arrival
 pub mod Pick
+pub mod Ready
 pub mod Calls

@@ -15,7 +15,8 @@ use Rattle.tags.specs.Choice.{leadBy}
 use Rattle.tags.specs.declared.choice.Lead.{Lead}
 use Rattle.uplink.specs.Flow.{servedFlow, flowCost}
 use Rattle.uplink.specs.Record.{flowAt, tagOf, waitingOf, moved, put, rested, linkTime}
-use Rattle.uplink.specs.State.{State, Outcome, state, outcome, demand}
+use Rattle.reply.specs.State.{state, outcome, demand}
+use Rattle.uplink.specs.State.{State, Outcome}
 use Rattle.uplink.specs.Form.{checked}
 use Rattle.uplink.specs.declared.Record.{Record}
 use Rattle.uplink.specs.declared.pick.Gone.{Gone}

@@ -1,7 +1,7 @@
 // An arrival: document 01, "The three calls", with refusals 1, 2, 7, 8, 9 in this order.
 ghost use mathlib.Core.Path.{_≡_};
 ghost use Rattle.reply.specs.Reply.{arrivalReply};
-ghost use Rattle.uplink.specs.State.{state, outcome};
+ghost use Rattle.reply.specs.State.{state, outcome};
 ghost use Rattle.uplink.specs.Arrival.{arrivalRule};
 use crate::Arrived;
 use crate::Record;

@@ -12,7 +12,7 @@ use tags::ServerTicks;
 const CLOCK_END: u64 = 4611686019554593984;
 
 // The record of these parts is well formed, with this memory of lengths.
-pub(crate) fn is_formed<'a>(
+pub fn is_formed<'a>(
     table: &[u32; 1000],
     flows: u16,
     header: u16,

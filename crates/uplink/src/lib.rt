@@ -12,6 +12,9 @@ mod form;
 mod opening;
 mod pick;
 
+pub use form::is_formed;
+pub use pick::Gone;
+pub use pick::advance;
 use queues::Queues;
 use reply::ArrivalReply;
 use reply::OpeningReply;

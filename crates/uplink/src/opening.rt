@@ -1,7 +1,7 @@
 // An opening: document 01, "The three calls", with refusals 1, 3, then flow by flow 4 before 5, then 6.
 ghost use mathlib.Core.Path.{_≡_};
 ghost use Rattle.reply.specs.Reply.{openingReply};
-ghost use Rattle.uplink.specs.State.{outcome};
+ghost use Rattle.reply.specs.State.{outcome};
 ghost use Rattle.uplink.specs.Opening.{openingRule};
 use crate::Opened;
 use crate::Record;

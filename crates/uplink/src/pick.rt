@@ -5,7 +5,7 @@ ghost use Prim.Native.Nat.{_^_, _<_};
 ghost use lib.ListN.{length, set};
 ghost use Rattle.queues.specs.Queue.{placeOf};
 ghost use Rattle.uplink.specs.PickReply.{pickReply};
-ghost use Rattle.uplink.specs.State.{state, outcome};
+ghost use Rattle.reply.specs.State.{state, outcome};
 ghost use Rattle.uplink.specs.Pick.{goneOf, pickRule};
 use crate::PickReply;
 use crate::Picked;
@@ -30,7 +30,7 @@ pub struct Gone {
 }
 
 // Step 4: the packet in front leaves, and both clocks go on by what it takes of the link.
-fn advance(
+pub fn advance(
     header: u16,
     flow: u32,
     first: u16,

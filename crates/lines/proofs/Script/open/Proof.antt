@@ -1,7 +1,8 @@
 -- `lines::Script::open` meets its contract: the opening's outcome and the line that it writes are what the rule says.
 -- That the arrays have 65 places is what the type says of the script.
 -- Assumes nothing.
-use Rattle.lines.proofs.Stepping.{rows-within, rows-length, opening-stepped}
+use Rattle.lines.specs.Ends.{rows-within, rows-length}
+use Rattle.lines.proofs.Stepping.{opening-stepped}
 use mathlib.Core.Path.{_≡_, sym, _∙_}
 use lib.ListN.{length, length-map}
 use borrow.Author.Needs.{needs}

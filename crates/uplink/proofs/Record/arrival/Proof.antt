@@ -3,8 +3,10 @@
 -- Assumes nothing.
 use native.Mathlib.Omega.{arith}
 use borrow.Author.Needs.{needs}
-use Rattle.uplink.proofs.Checking.{both-lent, was-formed, checked-unlent, checked-unformed}
-use Rattle.uplink.proofs.Arriving.{Storable, storable, arrived-refused, arrived-first, arrived-behind}
+use Rattle.queues.specs.Checked.{both-lent}
+use Rattle.uplink.specs.Ready.{Stored}
+use Rattle.uplink.proofs.Checking.{was-formed, checked-unlent, checked-unformed}
+use Rattle.uplink.proofs.Arriving.{taken, arrived-refused, arrived-first, arrived-behind}
 use Rattle.uplink.proofs.Record.arrival.Statement.{statement}
 use Rattle.uplink.proofs.Record.arrival.Tie as tie
 
@@ -26,13 +28,13 @@ taken-at c = c .before .before .before .before .before .before .before .before
 ready : (told : tie.After-enum-told)
     → let passed = lent-at (replied told) in
     let args = begun passed .args in
-    Storable (args .t1) (args .flow) (args .length) (passed .before .before .before .before .table .result)
+    Stored (args .t1) (args .flow) (args .length) (passed .before .before .before .before .table .result)
     (args .lengths .now) (args .handles .now)
 ready told =
     let formed = replied told in
     let passed = lent-at formed in
     let args = begun passed .args in
-    storable (args .t1) (args .lengths .now) (args .handles .now) (args .flow) (args .length) (args .handle) _
+    taken (args .t1) (args .lengths .now) (args .handles .now) (args .flow) (args .length) (args .handle) _
     (passed .before .are-lent .ensures) (passed .if1 .left) _ (formed .before .is-formed .ensures) (formed .if2 .left) _
     (told .before .before .arrival-reply .ensures)
     (told .enum-told .given .1)
@@ -65,47 +67,47 @@ enum-told : tie.Need-enum-told
 enum-told c = search needs
 
 field-requires : tie.Need-field-requires
-field-requires c κs = ready (c .before .before) .flow
+field-requires c κs = ready (c .before .before) .queue .flow
 
 join-requires : tie.Need-join-requires
-join-requires c κs = let known = ready (c .before .before .before .before) in (known .flow, known .room)
+join-requires c κs = let known = ready (c .before .before .before .before) in (known .queue .flow, known .queue .room)
 
 cast-bytes : tie.Need-cast-bytes
-cast-bytes c = let known = ready (c .before .before .before .before .before) in search needs
+cast-bytes c = let known = ready (c .before .before .before .before .before) .queue in search needs
 
 store-requires : tie.Need-store-requires
 store-requires c κs =
     let known = ready (c .before .before .before .before .before .before .before) in
-    (known .flow, known .lengths-lent, known .handles-lent)
+    (known .queue .flow, known .queue .lengths-lent, known .queue .handles-lent)
 
 field-requires-2 : tie.Need-field-requires-2
-field-requires-2 c κs = ready (taken-at (c .before .before .before .before .before .before .before .before)) .flow
+field-requires-2 c κs = ready (taken-at (c .before .before .before .before .before .before .before .before)) .queue .flow
 
 cost-at-requires : tie.Need-cost-at-requires
 cost-at-requires c κs =
     let known = ready (taken-at (c .before .before .before .before .before .before .before .before .before)) in (
-      omega (arith, known .share-low, c .field2 .ensures),
-      omega (arith, known .share-high, c .field2 .ensures),
-      known .table-right,
+      omega (arith, known .queue .share-low, c .field2 .ensures),
+      omega (arith, known .queue .share-high, c .field2 .ensures),
+      known .queue .table-right,
     )
 
 tag-at-requires : tie.Need-tag-at-requires
 tag-at-requires c κs =
     let near = c .before .before .before .before .before .before .before .before in
     let there = near .before .before .before .before in
-    ready (taken-at there) .flow
+    ready (taken-at there) .queue .flow
 
 front-tag-requires : tie.Need-front-tag-requires
 front-tag-requires c κs =
     let near = c .before .before .before .before .before .before .before .before in
     let known = ready (taken-at (near .before .before .before .before .before .before)) in
-    (omega (arith, known .tag, c .before .tag-at .ensures), known .clock)
+    (omega (arith, known .tag, c .before .tag-at .ensures), omega (arith, known .clock))
 
 put-tag-requires : tie.Need-put-tag-requires
 put-tag-requires c κs =
     let near = c .before .before .before .before .before .before .before .before in
     let there = near .before .before .before .before .before .before .before .before in
-    ready (taken-at there) .flow
+    ready (taken-at there) .queue .flow
 
 enum-told-2 : tie.Need-enum-told-2
 enum-told-2 c = search needs

@@ -3,8 +3,10 @@
 -- Assumes nothing.
 use native.Mathlib.Omega.{arith}
 use borrow.Author.Needs.{needs}
-use Rattle.uplink.proofs.Checking.{both-lent, checked-unlent, checked-unformed}
-use Rattle.uplink.proofs.Picking.{Servable, servable, tagged, leap-most, gone-most, picked-idle, picked-late}
+use Rattle.queues.specs.Checked.{both-lent}
+use Rattle.uplink.specs.Ready.{Leaves}
+use Rattle.uplink.proofs.Checking.{checked-unlent, checked-unformed}
+use Rattle.uplink.proofs.Picking.{leaving, led-tag, tagged, leap-most, gone-most, picked-idle, picked-late}
 use Rattle.uplink.proofs.Picking.{picked-more, picked-last}
 use Rattle.uplink.proofs.Record.pick.Statement.{statement}
 use Rattle.uplink.proofs.Record.pick.Tie as tie
@@ -42,14 +44,14 @@ ready : (soon : tie.Else4)
     → let chosen = chosen-at soon in
     let passed = lent-at (formed-at chosen) in
     let args = begun passed .args in
-    Servable (args .t1) (chosen .choose .result) (passed .before .before .before .before .table .result)
+    Leaves (args .t1) (chosen .choose .result .flow) (passed .before .before .before .before .table .result)
     (args .lengths .now) (args .handles .now)
 ready soon =
     let chosen = chosen-at soon in
     let formed = formed-at chosen in
     let passed = lent-at formed in
     let args = begun passed .args in
-    servable (args .t1) (args .lengths .now) (args .handles .now) _ (passed .before .are-lent .ensures)
+    leaving (args .t1) (args .lengths .now) (args .handles .now) _ (passed .before .are-lent .ensures)
     (passed .if1 .left) _
     (formed .before .is-formed .ensures) (formed .if2 .left) _ (chosen .choose .ensures)
     (soon .before .if3 .left) (soon .if4 .left) _ (passed .before .before .before .before .table .ensures)
@@ -84,32 +86,32 @@ leap-requires : tie.Need-leap-requires
 leap-requires c κs = search needs
 
 go-on-requires : tie.Need-go-on-requires
-go-on-requires c κs = let known = ready (c .before .before .before .before) in (known .flow, known .first-below)
+go-on-requires c κs = let known = ready (c .before .before .before .before) in (known .queue .flow, known .queue .first-below)
 
 leave-requires : tie.Need-leave-requires
 leave-requires c κs =
-    let known = ready (c .before .before .before .before .before .before) in (known .flow, known .waits)
+    let known = ready (c .before .before .before .before .before .before) in (known .queue .flow, known .queue .waits)
 
 advance-requires : tie.Need-advance-requires
 advance-requires c κs =
     let known = ready (c .before .before .before .before .before .before .before .before .before .before) in
     let leap = leap-most _ _ _ _ (c .before .before .before .before .before .before .before .leap .ensures) in (
-      (known .flow, known .lengths-lent, known .handles-lent),
+      (known .queue .flow, known .queue .lengths-lent, known .queue .handles-lent),
       (omega (arith, leap, known .clock, known .width), omega (arith, known .link)),
     )
 
 field-requires : tie.Need-field-requires
 field-requires c κs =
     let there = c .before .before .before .before .before .before .before .before .before .before in
-    ready (gone-at there) .flow
+    ready (gone-at there) .queue .flow
 
 cost-at-requires : tie.Need-cost-at-requires
 cost-at-requires c κs =
     let near = c .before .before .before .before .before .before .before .before in
     let known = ready (gone-at (near .before .before .before)) in (
-      omega (arith, known .share-low, c .field .ensures),
-      omega (arith, known .share-high, c .field .ensures),
-      known .table-right,
+      omega (arith, known .queue .share-low, c .field .ensures),
+      omega (arith, known .queue .share-high, c .field .ensures),
+      known .queue .table-right,
     )
 
 front-tag-requires : tie.Need-front-tag-requires
@@ -121,17 +123,21 @@ front-tag-requires c κs =
     let passed = lent-at formed in
     let args = begun passed .args in
     let known = ready soon in
-    let short = rw (← on-at gone .go-on .ensures .0) at (known .short) in
+    let short = rw (← on-at gone .go-on .ensures .0) at (known .queue .short) in
     let leap = leap-most _ _ _ _ (leapt-at gone .leap .ensures) in
     let late = gone-most (gone .advance .result) _ _ _ (leapt-at gone .leap .result .clock .0) (args .t1 .link .0)
-    (args .lengths .now) (args .handles .now) (gone .advance .ensures .0) (known .header) short in
-    (known .tag, omega (arith, late, leap, known .clock, known .width))
+    (args .lengths .now) (args .handles .now) (gone .advance .ensures .0) (known .queue .header-low) short in
+    let tag = led-tag (args .t1) (args .lengths .now) (args .handles .now) _ (passed .before .are-lent .ensures)
+    (passed .if1 .left) _
+    (formed .before .is-formed .ensures) (formed .if2 .left) _ (chosen .choose .ensures)
+    (soon .before .if3 .left) (soon .if4 .left) in
+    (tag, omega (arith, late, leap, known .clock, known .width))
 
 put-tag-requires : tie.Need-put-tag-requires
 put-tag-requires c κs =
     let near = c .before .before .before .before .before .before .before .before in
     let there = near .before .before .before .before .before .before in
-    ready (gone-at there) .flow
+    ready (gone-at there) .queue .flow
 
 same-length : tie.Need-same-length
 same-length c = search needs
