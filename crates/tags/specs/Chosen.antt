@@ -1,17 +1,18 @@
 -- What the leader among the flows is: a waiting flow of smallest tag, of equal tags the lowest number; and where
 -- nobody leads nobody waits.
 -- Assumes nothing.
-use mathlib.Core.Path.{_≡_, refl, sym, _∙_}
+use mathlib.Core.Path.{_≡_, refl, sym, ap, ap₂, _∙_}
 use mathlib.Core.Bool.{Bool, true, false, cond}
 use mathlib.Core.List.{List}
-use Prim.Native.Nat.{ℕ, zero, suc, _≤_, _<_}
+use Prim.Native.Nat.{ℕ, zero, suc, _+_, _≤_, _<_}
 use native.Mathlib.Nat.{not-suc-le-zero}
 use native.Mathlib.Decide.{ℕ-discrete}
 use native.Mathlib.Omega.{arith}
 use lib.Dec.{leb, eqb}
 use lib.ListN.{getD}
-use borrow.Author.Tests.{leb-true, leb-false, eqb-true, eqb-false}
+use borrow.Author.Tests.{leb-true, leb-false, eqb-true, eqb-false, le-leb, lt-leb}
 use Rattle.below.specs.Truth.{true-false}
+use Rattle.tags.specs.Ticks.{ticks}
 use Rattle.tags.specs.Choice.{Smallest, noTag, noLead, leadAt, ahead, leadBy}
 use Rattle.tags.specs.declared.choice.Lead.{Lead}
 
@@ -118,3 +119,57 @@ leads tag waiting (suc n) = leads-more tag waiting n (leadBy tag waiting n) (lea
 -- no tag of the first n is what stands for none
 pub record Tagged (tags : List ℕ) (n : ℕ) : Type 0 where
   pub each : (f : ℕ) → f < n → getD tags f 0 < noTag
+
+-- a leader with s added to its tag
+abbrev pub further : ℕ → Lead → Lead
+further s lead =
+    record { waits = lead .waits; flow = lead .flow; tag = ticks (cond (lead .waits) (lead .tag .0 + s) noTag) }
+
+-- it is passed where it is passed without
+further-ahead : (s tag more waiting n : ℕ) (lead : Lead) → (0 < waiting → more ≡ tag + s)
+    → ahead (further s lead) more waiting n ≡ further s (ahead lead tag waiting n)
+unfolding ahead
+further-ahead s tag more waiting n lead same = go (eqb waiting 0) refl (lead .waits) refl (leb (lead .tag .0) tag) refl
+  where
+    more-waits : eqb waiting 0 ≡ false → more ≡ tag + s
+    more-waits p = same (omega (arith, eqb-false waiting 0 p))
+
+    go : (a : Bool) → eqb waiting 0 ≡ a → (b : Bool) → lead .waits ≡ b → (c : Bool) → leb (lead .tag .0) tag ≡ c
+        → ahead (further s lead) more waiting n ≡ further s (ahead lead tag waiting n)
+    go true p b q c t = rw p
+    go false p true q true t = rw (
+      p,
+      q,
+      more-waits p,
+      t,
+      le-leb (lead .tag .0 + s) (tag + s)
+          (omega (arith, leb-true (lead .tag .0) tag t)),
+    )
+    go false p true q false t = rw (
+      p,
+      q,
+      more-waits p,
+      t,
+      lt-leb (lead .tag .0 + s) (tag + s)
+          (omega (arith, leb-false (lead .tag .0) tag t)),
+    )
+    go false p false q c t = rw (p, q, more-waits p)
+
+-- where the tags of all that wait are more by s, the same flow leads
+pub leads-further : (tag more waiting : ℕ → ℕ) (s n : ℕ) → ((f : ℕ) → f < n → 0 < waiting f → more f ≡ tag f + s)
+    → leadBy more waiting n ≡ further s (leadBy tag waiting n)
+unfolding leadBy
+leads-further tag more waiting s zero same = refl
+leads-further tag more waiting s (suc n) same =
+    ap (λ lead. ahead lead (more n) (waiting n) n)
+    (leads-further tag more waiting s n (λ f h. same f (omega arith)))
+    ∙ further-ahead s (tag n) (more n) (waiting n) n (leadBy tag waiting n) (same n (omega arith))
+
+-- where the first n have the same tags, the same flow leads
+pub leads-same : (tag other waiting : ℕ → ℕ) (n : ℕ) → ((f : ℕ) → f < n → other f ≡ tag f)
+    → leadBy other waiting n ≡ leadBy tag waiting n
+unfolding leadBy
+leads-same tag other waiting zero same = refl
+leads-same tag other waiting (suc n) same =
+    ap₂ (λ lead t. ahead lead t (waiting n) n) (leads-same tag other waiting n (λ f h. same f (omega arith)))
+    (same n (omega arith))
