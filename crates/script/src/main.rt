@@ -6,38 +6,8 @@
 // `lines`).
 ghost use Prim.Native.Nat.{_≤_};
 ghost use lib.ListN.{length};
-ghost use Rattle.io.specs.Counts.{Counts};
 use libc::STDERR_FILENO;
-use libc::STDIN_FILENO;
 use libc::STDOUT_FILENO;
-
-// What was read of standard input: so many bytes, and whether a read failed.
-struct Input {
-    count: usize,
-    failed: bool,
-}
-
-// Reads until the buffer is full, the input ends or a read fails.
-fn read_input(input: &mut [u8]) -> Input
-    ensures { λ r. ⌜ Counts (r .count) (now (input .exit)) ⌝ }
-{
-    let mut count = 0;
-    while count < input.len() {
-        let got = libc::read(STDIN_FILENO, &mut input[count..]);
-        let more = io::count(got, &input[count..]);
-        if more == 0 {
-            return Input {
-                count,
-                failed: got < 0,
-            };
-        }
-        count += more;
-    }
-    Input {
-        count,
-        failed: false,
-    }
-}
 
 // All lines of the input, a buffer of output at a time. Whether standard output took every buffer.
 fn run(input: &[u8], lengths: &mut [u16], handles: &mut [u32], out: &mut [u8]) -> bool
@@ -59,7 +29,7 @@ fn run(input: &[u8], lengths: &mut [u16], handles: &mut [u32], out: &mut [u8]) -
 
 fn main() {
     let mut input = io::large_buffer();
-    let read = read_input(&mut input);
+    let read = console::read_input(&mut input);
     if read.failed {
         io::write_all(STDERR_FILENO, b"script: standard input failed\n");
         return;

@@ -1,13 +1,13 @@
--- `script::read_input` is safe and ends, and its count is of the buffer's bytes. The loop's invariant: so many bytes
+-- `console::read_input` is safe and ends, and its count is of the buffer's bytes. The loop's invariant: so many bytes
 -- are within the buffer, which keeps its length. The measure is what is left of the buffer.
 -- Assumes nothing.
-use mathlib.Core.Path.{_≡_}
+use mathlib.Core.Path.{_≡_, sym}
 use Prim.Native.Nat.{_-_, _≤_}
 use lib.ListN.{length}
 use borrow.Author.Needs.{needs}
-use Rattle.lines.specs.Ends.{part-length}
-use Rattle.script.proofs.read_input.Statement.{statement}
-use Rattle.script.proofs.read_input.Tie as tie
+use lib.Seq.{length-take-le}
+use Rattle.console.proofs.read_input.Statement.{statement}
+use Rattle.console.proofs.read_input.Tie as tie
 
 abbrev Inv-loop : tie.InvT-loop
 Inv-loop input₀ count₀ input count = (count ≤ length input) × (length input ≡ length input₀)
@@ -46,7 +46,7 @@ same-length : tie.Need-same-length Inv-loop μ-loop
 same-length c = search needs
 
 returns : tie.Need-returns Inv-loop μ-loop
-returns c = (search needs, part-length _ _ (search needs))
+returns c = (search needs, sym (length-take-le _ _ (search needs)))
 
 add-count : tie.Need-add-count Inv-loop μ-loop
 add-count c = search needs
@@ -61,7 +61,7 @@ same-length-2 : tie.Need-same-length-2 Inv-loop μ-loop
 same-length-2 c = search needs
 
 returns-2 : tie.Need-returns-2 Inv-loop μ-loop
-returns-2 c = (search needs, part-length _ _ (search needs))
+returns-2 c = (search needs, sym (length-take-le _ _ (search needs)))
 
 pub read-input-spec : {M : Type 1} → statement M
 read-input-spec =
