@@ -16,15 +16,15 @@ import uplink
 PROGRAM = pathlib.Path(__file__).with_name("uplink.py")
 
 
-def opened(*rows, header=0):
+def opened(*rows, header=0, engine=uplink.FIRST_ENGINE):
     """A record and memories after an accepted opening."""
     memories = uplink.Memories()
     shares, largest_packets = [row[0] for row in rows], [row[1] for row in rows]
-    return uplink.opening(shares, largest_packets, header, memories), memories
+    return engine.opening(shares, largest_packets, header, memories), memories
 
 
-def run(script):
-    command = [sys.executable, str(PROGRAM)]
+def run(script, program=PROGRAM):
+    command = [sys.executable, str(program)]
     return subprocess.run(command, input=script, capture_output=True, check=True)
 
 

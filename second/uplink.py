@@ -1,7 +1,8 @@
 #!/usr/bin/env python3
 """The script program of the uplink scheduler, written from documents 01 and 02 alone.
 
-This is the second program: it shares no code, table or helper with the crates.
+This is the second program: it shares no code, table or helper with the crates. Here is the first
+engine, leap forward, and all that it has in common with the plain engine of 02 c) (plain.py).
 Words in quotation marks are document 01's, or document 02's where they follow "02".
 Python's whole numbers have no upper end, so nothing here can wrap around. A call
 that is done changes the record and the memories in place; a refused call raises
@@ -11,6 +12,7 @@ Refusal before anything has changed.
 import os
 import re
 import sys
+from collections import namedtuple
 from dataclasses import dataclass, field
 
 
@@ -125,16 +127,20 @@ def check_memories(memories):
         raise Refusal(1)
 
 
+def is_well_formed(record, memories):
+    return (table_is_well_formed(record) and waiting_is_well_formed(record, memories)
+            and tags_are_well_formed(record) and clocks_are_well_formed(record)
+            and the_rest_is_zero(record) and header_is_well_formed(record))
+
+
 def check_memories_and_record(memories, record):
     # 2: "the record is not well formed"
     check_memories(memories)
-    if not (table_is_well_formed(record) and waiting_is_well_formed(record, memories)
-            and tags_are_well_formed(record) and clocks_are_well_formed(record)
-            and the_rest_is_zero(record) and header_is_well_formed(record)):
+    if not is_well_formed(record, memories):
         raise Refusal(2)
 
 
-def opening(shares, largest_packets, header, memories):
+def opening(shares, largest_packets, header, memories, blank=Record):
     # "Opening: 1, 3, then flow by flow from 0, 4 before 5, then 6."
     # 02 a): "3 also when the header is over 64"
     check_memories(memories)
@@ -149,7 +155,7 @@ def opening(shares, largest_packets, header, memories):
         raise Refusal(6)
     # "It gives the record with clock, link time, tags, firsts and waiting numbers 0,
     # and sets all 4,096 places of both memories to 0."
-    record = Record(number_of_flows=len(shares), header=header)
+    record = blank(number_of_flows=len(shares), header=header)
     for flow, share, largest in zip(record.flows, shares, largest_packets):
         flow.share, flow.largest = share, largest
     record.leap_width = leap_width(record)
@@ -160,6 +166,11 @@ def opening(shares, largest_packets, header, memories):
 def arrival(record, memories, f, length, handle):
     # "Arrival: 1, 2, 7, 8, 9."
     check_memories_and_record(memories, record)
+    arrive(record, memories, f, length, handle)
+
+
+def arrive(record, memories, f, length, handle):
+    """The arrival after 1 and 2, the same in both engines of 02 c)."""
     if not f < record.number_of_flows:
         raise Refusal(7)
     flow = record.flows[f]
@@ -180,22 +191,46 @@ def arrival(record, memories, f, length, handle):
 def pick(record, memories):
     # "Pick: 1, 2, Idle, 10."
     check_memories_and_record(memories, record)
-    waiting_flows = [f for f, flow in enumerate(record.table()) if flow.waiting > 0]
-    # 1. "Nothing waits: reply Idle; clock, link time and all tags become 0; all else stays."
+    waiting_flows = flows_that_wait(record)
     if not waiting_flows:
-        record.clock = record.link_time = 0
-        for flow in record.table():
-            flow.tag = 0
-        return "idle"
+        return idle(record)
     if record.clock >= 2**62:
         raise Refusal(10)
+    f = smallest_tag(record, waiting_flows)
+    # 3. "If T is greater than clock + 2Δ, add Δ to the clock, once."
+    leapt = 1 if is_far_ahead(record, f) else 0
+    record.clock += leapt * record.leap_width
+    return serve(record, memories, f, leapt)
+
+
+# The steps of a pick that are the same in both engines of 02 c).
+
+def flows_that_wait(record):
+    return [f for f, flow in enumerate(record.table()) if flow.waiting > 0]
+
+
+def idle(record):
+    # 1. "Nothing waits: reply Idle; clock, link time and all tags become 0; all else stays."
+    record.clock = record.link_time = 0
+    for flow in record.flows:
+        flow.tag = 0
+    return "idle"
+
+
+def smallest_tag(record, waiting_flows):
     # 2. "Take the waiting flow with the smallest tag T. ... the lowest flow number wins."
-    f = min(waiting_flows, key=lambda g: (record.flows[g].tag, g))
+    return min(waiting_flows, key=lambda g: (record.flows[g].tag, g))
+
+
+def is_far_ahead(record, f):
+    # 3. "If T is greater than clock + 2Δ": what is done then is the engine's own.
+    return record.flows[f].tag > record.clock + 2 * record.leap_width
+
+
+def serve(record, memories, f, leapt):
+    """Steps 4 and 5, and the reply, T being the tag that the flow has after step 3."""
     flow = record.flows[f]
     tag = flow.tag
-    # 3. "If T is greater than clock + 2Δ, add Δ to the clock, once."
-    leapt = 1 if tag > record.clock + 2 * record.leap_width else 0
-    record.clock += leapt * record.leap_width
     # 4. "Add 720 × n to clock and link time": by 02 a) n is the charge. "The freed place
     # becomes 0 in both memories; first goes on by one, 63 to 0."
     front = place(f, flow.first, 0)
@@ -215,6 +250,11 @@ def pick(record, memories):
     return f, length, handle, tag, leapt, record.clock
 
 
+# What a script needs of an engine: its blank record and "three calls: opening, arrival, pick".
+Engine = namedtuple("Engine", "blank opening arrival pick")
+FIRST_ENGINE = Engine(Record, opening, arrival, pick)
+
+
 def call_of_line(line):
     # "Fields are parted by one space; numbers have 1 to 10 decimal digits and are at most
     # 4,294,967,295. Any other line ... writes `bad`": then there is no call.
@@ -227,9 +267,10 @@ def call_of_line(line):
 
 class Script:
     # "Before an opening the record is blank."
-    def __init__(self):
+    def __init__(self, engine=FIRST_ENGINE):
+        self.engine = engine
         self.rows = []
-        self.record = Record()
+        self.record = engine.blank()
         self.memories = Memories()
 
     def output_of_line(self, line):
@@ -254,20 +295,20 @@ class Script:
             if letter == "o":
                 return self.opening()
             if letter == "a":
-                arrival(self.record, self.memories, *numbers)
+                self.engine.arrival(self.record, self.memories, *numbers)
                 return [0]
-            reply = pick(self.record, self.memories)
+            reply = self.engine.pick(self.record, self.memories)
             return [reply] if reply == "idle" else [0, *reply]
         except Refusal as refusal:
             return [refusal.number, refusal.flow] if letter == "o" else [refusal.number]
 
     def opening(self):
         # "A refusal returns the record as given (opening: the blank record)."
-        self.record = Record()
+        self.record = self.engine.blank()
         shares = [share for share, largest in self.rows]
         largest_packets = [largest for share, largest in self.rows]
         # "The script opens with 0 for it": for a field that a request adds.
-        self.record = opening(shares, largest_packets, 0, self.memories)
+        self.record = self.engine.opening(shares, largest_packets, 0, self.memories)
         return [0, 0]
 
 
@@ -278,14 +319,14 @@ def lines_of_input(data):
     return lines + [rest] if rest else lines
 
 
-def output_of_input(data):
-    script = Script()
+def output_of_input(data, engine=FIRST_ENGINE):
+    script = Script(engine)
     output_lines = [script.output_of_line(line) for line in lines_of_input(data)]
     return b"".join(line.encode() + b"\n" for line in output_lines if line is not None)
 
 
-def main():
-    output = output_of_input(sys.stdin.buffer.read(65_536) if sys.stdin else b"")
+def main(engine=FIRST_ENGINE):
+    output = output_of_input(sys.stdin.buffer.read(65_536) if sys.stdin else b"", engine)
     try:
         if sys.stdout:
             sys.stdout.buffer.write(output)
