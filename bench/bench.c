@@ -2,6 +2,7 @@
  *
  *     bench LOAD             writes nanoseconds per arrival and per pick, each the best of several runs
  *     bench LOAD ROUNDS      makes ROUNDS picks and arrivals and writes nothing: for counting instructions
+ *     bench LOAD ROUNDS leap|still    the same, with the tags set before each pick so that it leaps, or does not
  *
  * The buffers are warm: they are filled once and stay in the cache from call to call. */
 #define _POSIX_C_SOURCE 200809L
@@ -142,11 +143,18 @@ static void write_best(const struct load *load)
     printf("%.0f %.0f\n", best_arrival, best_pick);
 }
 
-static void run_counted(const struct load *load, long rounds)
+/* tags is NULL, or says how to set them before each pick */
+static void run_counted(const struct load *load, long rounds, const char *tags)
 {
     fill(load, &sides[0]);
     for (long round = 0; round < rounds; round++) {
+        if (tags != NULL)
+            side_set_tags(&sides[0], load->flows, strcmp(tags, "leap") == 0);
         must(pick_all(1, 1) == 0);
+        if (tags != NULL && REPLY_LEAPT(replies[0]) != (strcmp(tags, "leap") == 0)) {
+            fprintf(stderr, "bench: a pick leapt, or did not, against its tags\n");
+            exit(1);
+        }
         must(arrive_all(1, 1) == 0);
     }
 }
@@ -159,9 +167,9 @@ int main(int count_of_words, char **words)
         if (count_of_words == 2)
             write_best(&loads[i]);
         else
-            run_counted(&loads[i], atol(words[2]));
+            run_counted(&loads[i], atol(words[2]), count_of_words > 3 ? words[3] : NULL);
         return 0;
     }
-    fprintf(stderr, "usage: bench two|camera|full [ROUNDS]\n");
+    fprintf(stderr, "usage: bench two|camera|full [ROUNDS [leap|still]]\n");
     return 2;
 }
