@@ -1,13 +1,14 @@
 -- One list copied into another of the same length, entry by entry from the first.
 -- Assumes nothing.
-use mathlib.Core.Path.{_≡_, refl, _∙_}
-use mathlib.Core.List.{List, _++_, append-nil}
+use mathlib.Core.Path.{_≡_, refl, sym, ap, _∙_}
+use mathlib.Core.List.{List, _++_, append-assoc, append-nil}
 use Prim.Native.Nat.{ℕ, _+_, _≤_, _<_}
 use native.Mathlib.Nat.{zero-add}
 use native.Mathlib.Numerals.{add-one}
 use native.Mathlib.Omega.{arith}
-use lib.ListN.{length, getD, set, take, drop}
-use lib.Seq.{take-all, drop-length, paste-suc}
+use lib.ListN.{length, getD, set, take, drop, length-append, length-drop}
+use lib.Seq.{take-all, take-at, take-add, drop-at, drop-drop, drop-length, length-take-le, paste-suc}
+use borrow.Rule.Slice.PartMut.{putMid}
 
 -- l is `into` with its first n entries from `from`
 pub record Copied {A : Type 0} (from into : List A) (n : ℕ) (l : List A) : Type 0 where
@@ -23,6 +24,27 @@ module _ {A : Type 0} (from into : List A) (same : length from ≡ length into) 
   copied-more n l d h c =
       record {
         so-far = rw (c .so-far, add-one) (simp zero-add at (paste-suc into 0 from n d (omega (arith, same)) h));
+      }
+
+  pub copied-length : (n : ℕ) (l : List A) → n ≤ length from → Copied from into n l → length l ≡ length into
+  copied-length n l h c =
+      rw (c .so-far, length-append, length-drop, length-take-le n from h) (omega (arith, same))
+
+  -- k entries at once, as a part that was lent
+  pub copied-part : (n k : ℕ) (l p : List A) → n + k ≤ length from → p ≡ take k (drop n from) → Copied from into n l
+      → Copied from into (n + k) (putMid n k l p)
+  copied-part n k l p h e c =
+      let long : length (take n from) ≡ n = length-take-le n from (omega arith) in
+      record {
+        so-far = rw (
+          c .so-far,
+          take-at (take n from) (drop n into) n long,
+          drop-at (take n from) (drop n into) n long,
+          drop-drop k n into,
+          e,
+        )
+            (sym (append-assoc (take n from) (take k (drop n from)) (drop (n + k) into))
+            ∙ ap (λ (front : List A). front ++ drop (n + k) into) (sym (take-add n k from)));
       }
 
   pub copied-all : (n : ℕ) (l : List A) → length from ≤ n → n ≤ length from → Copied from into n l → l ≡ from

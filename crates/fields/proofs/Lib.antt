@@ -1,0 +1,2 @@
+-- `Numbers`: how reading and writing a number go on by a byte.
+mod Numbers

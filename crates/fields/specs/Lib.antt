@@ -1,0 +1,3 @@
+-- `Bytes`: little-endian numbers. `Laws`: numbers and bytes undo each other.
+pub mod Bytes
+pub mod Laws
