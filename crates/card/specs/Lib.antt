@@ -1,0 +1,5 @@
+-- `Block`: a block as 512 bytes, and which contents are within the rules. `Card`: reader and writer. `Laws`: what is where
+-- in a block's bytes.
+pub mod Block
+pub mod Card
+pub mod Laws
