@@ -1,5 +1,6 @@
 -- `Block`: a block as 512 bytes, and which contents are within the rules. `Card`: reader and writer. `Laws`: what is where
--- in a block's bytes.
+-- in a block's bytes. `RoundTrips`: writer and reader undo each other.
 pub mod Block
 pub mod Card
 pub mod Laws
+pub mod RoundTrips

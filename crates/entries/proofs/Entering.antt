@@ -74,13 +74,13 @@ module _ (e : Entry) where
   unfolding restBlank
   rest-clock f l h = simp (eq-eqb _ _ f, eq-eqb _ _ l, eq-eqb _ _ h)
 
-  pub blank-kind : (e .kind ≡ 0 → ⊥) → false ≡ entryBlank e
+  pub blank-kind : {n : ℕ} → n < e .kind → false ≡ entryBlank e
   unfolding entryBlank
-  blank-kind n = simp (ne-eqb _ _ n)
+  blank-kind h = let n : e .kind ≡ 0 → ⊥ = λ q. omega arith in simp (ne-eqb _ _ n)
 
-  pub blank-rest : {r : Bool} → e .kind ≡ 0 → r ≡ restBlank e → r ≡ entryBlank e
+  pub blank-rest : {r : Bool} → e .kind ≤ 0 → r ≡ restBlank e → r ≡ entryBlank e
   unfolding entryBlank
-  blank-rest k q = simp (eq-eqb _ _ k) q
+  blank-rest h q = let k : e .kind ≡ 0 = omega arith in simp (eq-eqb _ _ k) q
 
   -- an entry is legal as the kind that was found says
   legal-as : {r : Bool} {found : Kind} (kind : Kind) → found ≡ kindOf (e .kind) → found ≡ kind → r ≡ legalAs kind e

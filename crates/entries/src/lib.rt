@@ -106,7 +106,7 @@ pub fn entry_legal(entry: Entry) -> bool
 pub fn entry_blank(entry: Entry) -> bool
     ensures { λ r. ⌜ r ≡ entryBlank entry ⌝ }
 {
-    if entry.kind != 0 {
+    if 0 < entry.kind {
         return false;
     }
     rest_blank(entry)

@@ -1,5 +1,5 @@
 -- `sums::sums_of` meets its contract. The loop's invariant: both are the sums over the bytes before `at`. The measure is
--- what is left of the 508.
+-- what is left of the block.
 -- Assumes nothing.
 use Prim.Native.Nat.{_-_}
 use native.Mathlib.Omega.{arith}
@@ -14,7 +14,7 @@ abbrev Inv-loop : tie.InvT-loop
 Inv-loop block first₀ second₀ at₀ first second at = Summed block first second at
 
 abbrev μ-loop : tie.MeasureT-loop
-μ-loop block first₀ second₀ at₀ first second at = 508 - at
+μ-loop block first₀ second₀ at₀ first second at = 512 - at
 
 loop-holds : tie.Need-loop-holds Inv-loop μ-loop
 loop-holds c = search (needs, summed-none)
@@ -29,7 +29,7 @@ add-first : tie.Need-add-first Inv-loop μ-loop
 add-first c = omega (arith, c .shared-slice-known .given (c .before .before .loop .at))
 
 add-second : tie.Need-add-second Inv-loop μ-loop
-add-second c = search needs
+add-second c = omega (arith, c .shared-slice-known .given (c .before .before .loop .at))
 
 add-at : tie.Need-add-at Inv-loop μ-loop
 add-at c = search needs
