@@ -1,5 +1,5 @@
--- Writer and reader are determined: of the same arguments, any two outcomes that the contract allows have the same answer,
--- content and bytes. Each is said on the contract itself, so it cannot drift from it.
+-- Writer and reader are determined: of the same arguments, any two outcomes that the contract allows have the same
+-- answer, content and bytes. Each is said on the contract itself, so it cannot drift from it.
 -- Assumes nothing.
 use mathlib.Core.Path.{_≡_, sym, _∙_}
 use contract.Lifetimes.{Lfts}

@@ -1,5 +1,5 @@
--- A block, document 02 d): "A block has 512 bytes, little-endian: block number in 0 to 3, entry count 1 to 31 in 4, zeros
--- in 5 to 11, then 31 entries of 16 bytes, then two 16-bit sums in 508 to 511."
+-- A block, document 02 d): "A block has 512 bytes, little-endian: block number in 0 to 3, entry count 1 to 31 in 4,
+-- zeros in 5 to 11, then 31 entries of 16 bytes, then two 16-bit sums in 508 to 511."
 -- Assumes nothing.
 use mathlib.Core.Path.{_≡_}
 use mathlib.Core.Bool.{Bool, cond, _&&_}

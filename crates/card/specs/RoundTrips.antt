@@ -3,12 +3,12 @@
 -- Assumes nothing.
 use mathlib.Core.Path.{_≡_, refl, sym, ap, ap₂, _∙_}
 use mathlib.Core.Bool.{Bool, true, false, cond, _&&_}
-use mathlib.Core.List.{List, [], _∷_, _++_}
+use mathlib.Core.List.{List, _∷_, _++_}
 use Prim.Native.Nat.{ℕ, zero, suc, _+_, _*_, _≤_, _<_}
 use native.Mathlib.Nat.{zero-add}
 use native.Mathlib.Omega.{arith}
 use lib.Dec.{eqb}
-use lib.ListN.{length, getD, take, drop, replicate}
+use lib.ListN.{length, getD, take, replicate}
 use lib.Seq.{drop-cons, take-all, ext-getD}
 use borrow.Author.Tests.{eq-eqb, eqb-true}
 use Rattle.below.specs.Truth.{both-true}
@@ -19,12 +19,11 @@ use Rattle.sums.specs.Sums.{sumsOf, sumsRight}
 use Rattle.sums.specs.Laws.{first-fits, second-fits}
 use Rattle.entries.specs.Entry.{entryOf, noEntry}
 use Rattle.entries.specs.Laws.{entry-read, entry-again}
-use Rattle.entries.specs.declared.Entry.{Entry}
 use Rattle.card.specs.declared.Block.{Block}
 use Rattle.card.specs.declared.Reading.{Reading}
 use Rattle.card.specs.Block.{entriesBytes, bodyBytes, sumBytes, blockBytes, entryAt, blockOf, headBlank}
 use Rattle.card.specs.Block.{blockLegal, BlockFits}
-use Rattle.card.specs.Card.{accepted, refused, readRule, Written, written, writeRule}
+use Rattle.card.specs.Card.{accepted, refused, readRule, written, writeRule}
 use Rattle.card.specs.Laws.{block-size, block-body, block-first, block-second, block-entry}
 
 -- ---- reading what was written
@@ -35,10 +34,10 @@ module _ (b : Block) (f : BlockFits b) where
   sums-written =
       let body = ap sumsOf (sym (block-body b (f .all))) in
       let one : numberOf (part (blockBytes b) 508 2) ≡ sumsOf (part (blockBytes b) 0 508) .first =
-          ap numberOf (block-first b (f .all)) ∙ number-bytes 2 _ (first-fits (bodyBytes b)) ∙ ap (λ s. s .first) body in
+      ap numberOf (block-first b (f .all)) ∙ number-bytes 2 _ (first-fits (bodyBytes b)) ∙ ap (λ s. s .first) body in
       let two : numberOf (part (blockBytes b) 510 2) ≡ sumsOf (part (blockBytes b) 0 508) .second =
-          ap numberOf (block-second b (f .all)) ∙ number-bytes 2 _ (second-fits (bodyBytes b))
-          ∙ ap (λ s. s .second) body in
+      ap numberOf (block-second b (f .all)) ∙ number-bytes 2 _ (second-fits (bodyBytes b))
+      ∙ ap (λ s. s .second) body in
       simp (eq-eqb _ _ one, eq-eqb _ _ two)
 
   head-written : headBlank (blockBytes b) ≡ true
@@ -97,7 +96,7 @@ module _ (bytes : List ℕ) (s : Small bytes) where
     unfolding bodyBytes blockOf
     body-again =
         let blank : replicate 7 0 ≡ part bytes 5 7 =
-            sym zero-bytes ∙ ap (bytesOf 7) (sym zeros) ∙ part-again bytes 5 7 s (omega arith) in
+        sym zero-bytes ∙ ap (bytesOf 7) (sym zeros) ∙ part-again bytes 5 7 s (omega arith) in
         let five = ap₂ _++_ blank (entries-again 0 31 (omega arith)) ∙ part-join bytes 5 7 496 in
         ap₂ _++_ (part-again bytes 0 4 s (omega arith)) (ap (λ t. getD bytes 4 0 ∷ t) five)
         ∙ ap (λ t. part bytes 0 4 ++ t) (ap (take 504) (sym (drop-cons bytes 4 0 (omega arith))))
@@ -110,7 +109,7 @@ module _ (bytes : List ℕ) (s : Small bytes) where
         let one : numberOf (part bytes 508 2) ≡ sumsOf (part bytes 0 508) .first = eqb-true _ _ (both .0) in
         let two : numberOf (part bytes 510 2) ≡ sumsOf (part bytes 0 508) .second = eqb-true _ _ (both .1) in
         let tail = ap₂ _++_ (ap (bytesOf 2) (sym one) ∙ part-again bytes 508 2 s (omega arith))
-            (ap (bytesOf 2) (sym two) ∙ part-again bytes 510 2 s (omega arith)) ∙ part-join bytes 508 2 2 in
+        (ap (bytesOf 2) (sym two) ∙ part-again bytes 510 2 s (omega arith)) ∙ part-join bytes 508 2 2 in
         ap (λ m. m ++ (bytesOf 2 (sumsOf m .first) ++ bytesOf 2 (sumsOf m .second))) body-again
         ∙ ap (λ t. part bytes 0 508 ++ t) tail ∙ part-join bytes 0 508 4 ∙ take-all 512 bytes (omega arith)
 
@@ -145,7 +144,7 @@ read-accepted bytes b e =
     let u = passed (sumsRight bytes) (third bytes) (refused 11) (λ q. omega arith) (number _ e′) in
     let e″ : third bytes ≡ accepted b = simp u at e′ in
     let v = passed (headBlank bytes && blockLegal (blockOf bytes)) (accepted (blockOf bytes)) (refused 12)
-        (λ q. omega arith) (number _ e″) in
+    (λ q. omega arith) (number _ e″) in
     let both = both-true (headBlank bytes) (blockLegal (blockOf bytes)) v in
     let told : blockOf bytes ≡ b = ap (λ (r : Reading). r .block) (simp v at e″) in
     record {

@@ -32,7 +32,8 @@ module _ (e : Entry) (bytes : List ℕ) {a b d : List ℕ} where
       let from : List ℕ = entryBytes e in
       let same : length from ≡ length bytes = sym h in
       let none = copied-none from bytes same in
-      let two = copied-more from bytes same 1 _ 0 (omega arith) (copied-more from bytes same 0 bytes 0 (omega arith) none) in
+      let one = copied-more from bytes same 0 bytes 0 (omega arith) none in
+      let two = copied-more from bytes same 1 _ 0 (omega arith) one in
       let four = copied-number from bytes same 2 2 _ a (e .length) (omega arith) p refl two in
       let eight = copied-number from bytes same 4 4 _ b (e .handle) (omega arith) q refl four in
       copied-all from bytes same 16 _ (omega arith) (omega arith)

@@ -2,11 +2,11 @@
 -- Assumes nothing.
 use mathlib.Core.Path.{_≡_, refl, sym, ap, ap₂, _∙_}
 use mathlib.Core.List.{List, _∷_, _++_}
-use Prim.Native.Nat.{ℕ, _+_, _≤_}
+use Prim.Native.Nat.{ℕ, _+_}
 use native.Mathlib.Omega.{arith}
-use lib.ListN.{length, getD, take, drop, take-append-drop, length-drop}
-use lib.Seq.{drop-cons, drop-drop, take-all}
-use Rattle.fields.specs.Bytes.{bytesOf, numberOf, part, Small}
+use lib.ListN.{length, getD, drop, length-drop}
+use lib.Seq.{drop-cons, take-all}
+use Rattle.fields.specs.Bytes.{bytesOf, part, Small}
 use Rattle.fields.specs.Laws.{number-bytes, part-again, part-join}
 use Rattle.entries.specs.declared.Entry.{Entry}
 use Rattle.entries.specs.Entry.{entryBytes, entryOf, EntryFits}

@@ -5,7 +5,7 @@ use mathlib.Core.List.{List, [], _∷_, _++_}
 use Prim.Native.Nat.{ℕ, zero, suc, _+_, _*_, _/_, _%_, _^_, _≤_, _<_}
 use native.Mathlib.Nat.{pow-succ'}
 use native.Mathlib.Omega.{arith}
-use lib.ListN.{length, getD, take, drop, length-take, length-drop}
+use lib.ListN.{length, take, drop, length-take, length-drop}
 use lib.Seq.{take-add, drop-drop, getD-drop}
 use borrow.Rule.Slice.PartMut.{putMid}
 use Rattle.below.specs.Copied.{Copied, copied-length, copied-part}

@@ -1,7 +1,7 @@
 -- The two sums: a turn of the loop with a remainder at each byte, and each way through the test.
 -- Assumes nothing.
 use mathlib.Core.Path.{_≡_, refl, sym, ap, _∙_}
-use mathlib.Core.Bool.{Bool, false}
+use mathlib.Core.Bool.{false}
 use mathlib.Core.List.{List}
 use Prim.Native.Nat.{ℕ, _+_, _%_, _≤_, _<_}
 use native.Mathlib.Nat.{mod-add-mod, add-mod-mod}
@@ -50,7 +50,8 @@ module _ (block : List ℕ) {s : Sums} {first : ℕ} (made : s ≡ sumsOf (part 
       λ q. n (one ∙ q ∙ ap (λ (t : Sums). t .first) (sym made)) in
       simp (ne-eqb _ _ m)
 
-  pub right-second : {second : ℕ} → first ≡ s .first → second ≡ numberOf (part block 510 2) → eqb second (s .second) ≡ sumsRight block
+  pub right-second : {second : ℕ} → first ≡ s .first → second ≡ numberOf (part block 510 2)
+      → eqb second (s .second) ≡ sumsRight block
   unfolding sumsRight
   right-second e two =
       let m : numberOf (part block 508 2) ≡ sumsOf (part block 0 508) .first =

@@ -46,9 +46,10 @@ read-number-requires-2 c κs = search needs
 
 cast-handle : tie.Need-cast-handle
 cast-handle c =
+    let start = c .before .before .before .before .before in
     omega (
       arith,
-      ap (λ (n : ℕ). 256 ^ n) (part-length (c .before .before .before .before .before .args .bytes .now) 4 4 (omega arith)),
+      ap (λ (n : ℕ). 256 ^ n) (part-length (start .args .bytes .now) 4 4 (omega arith)),
       c .read-number2 .ensures .1,
     )
 

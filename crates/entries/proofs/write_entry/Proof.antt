@@ -54,18 +54,21 @@ part-write-number-start-3 c = search needs
 
 part-write-number-end-3 : tie.Need-part-write-number-end-3
 part-write-number-end-3 c =
-    omega (arith, c .before .bytes2 .given .1, simp length-set at (c .before .before .before .before .before .before .bytes .given .1))
+    let first = c .before .before .before .before .before .before in
+    omega (arith, c .before .bytes2 .given .1, simp length-set at (first .bytes .given .1))
 
 write-number-requires-3 : tie.Need-write-number-requires-3
 write-number-requires-3 c κs = search needs
 
 same-length : tie.Need-same-length
 same-length c =
+    let second = c .before .before .before .before .before in
+    let first = second .before .before .before .before .before in
     omega (
       arith,
       c .before .bytes3 .given .1,
-      c .before .before .before .before .before .bytes2 .given .1,
-      simp length-set at (c .before .before .before .before .before .before .before .before .before .before .bytes .given .1),
+      second .bytes2 .given .1,
+      simp length-set at (first .bytes .given .1),
     )
 
 returns : tie.Need-returns

@@ -1,12 +1,9 @@
--- `fields::read_number` meets its contract. The loop's invariant: the number is that of the bytes from `at` on, and fits as
--- many bytes. The measure is `at`.
+-- `fields::read_number` meets its contract. The loop's invariant: the number is that of the bytes from `at` on, and
+-- fits as many bytes. The measure is `at`.
 -- Assumes nothing.
 use borrow.Author.Needs.{needs}
-use Prim.Native.Nat.{_≤_, _<_, _-_, _^_}
-use mathlib.Core.Path.{_≡_}
+use Prim.Native.Nat.{_-_}
 use native.Mathlib.Omega.{arith}
-use lib.ListN.{length, drop}
-use Rattle.fields.specs.Bytes.{numberOf}
 use Rattle.fields.proofs.Numbers.{Reading, reading-none, reading-more, reading-all, reading-room}
 use Rattle.fields.proofs.read_number.Statement.{statement}
 use Rattle.fields.proofs.read_number.Tie as tie
@@ -35,13 +32,21 @@ cast-number : tie.Need-cast-number Inv-loop μ-loop
 cast-number c = omega (arith, c .shared-slice-known .given (c .before .before .loop .at - 1))
 
 add-number : tie.Need-add-number Inv-loop μ-loop
-add-number c = omega (arith, c .shared-slice-known .given (c .before .before .loop .at - 1), reading-room (c .before .before .loop .inv) (c .before .before .before .pre) (omega arith))
+add-number c =
+    let loop = c .before .before in
+    omega (
+      arith,
+      c .shared-slice-known .given (loop .loop .at - 1),
+      reading-room (loop .loop .inv) (loop .before .pre) (omega arith),
+    )
 
 loop-less : tie.Need-loop-less Inv-loop μ-loop
 loop-less c = search needs
 
 loop-again : tie.Need-loop-again Inv-loop μ-loop
-loop-again c = reading-more (c .before .before .loop .inv) (omega arith) (omega (arith, c .shared-slice-known .given (c .before .before .loop .at - 1)))
+loop-again c =
+    let loop = c .before .before in
+    reading-more (loop .loop .inv) (omega arith) (omega (arith, c .shared-slice-known .given (loop .loop .at - 1)))
 
 returns : tie.Need-returns Inv-loop μ-loop
 returns c = reading-all (c .before .loop .inv) (omega arith)

@@ -1,5 +1,5 @@
--- `sums::sums_of` meets its contract. The loop's invariant: both are the sums over the bytes before `at`. The measure is
--- what is left of the block.
+-- `sums::sums_of` meets its contract. The loop's invariant: both are the sums over the bytes before `at`. The measure
+-- is what is left of the block.
 -- Assumes nothing.
 use Prim.Native.Nat.{_-_}
 use native.Mathlib.Omega.{arith}

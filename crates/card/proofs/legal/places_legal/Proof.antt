@@ -1,5 +1,5 @@
--- `card::legal::places_legal` meets its contract. The loop's invariant: what held of the places before this one. The measure
--- is what is left of the 31.
+-- `card::legal::places_legal` meets its contract. The loop's invariant: what held of the places before this one.
+-- The measure is what is left of the 31.
 -- Assumes nothing.
 use Prim.Native.Nat.{_-_}
 use Rattle.card.proofs.Ways.{Judged, judged-none, judged-more, judged-all}

@@ -1,5 +1,5 @@
--- `card::reader::entries_of` meets its contract. The loop's invariant: the entries before this place have been read. The
--- measure is what is left of the 31.
+-- `card::reader::entries_of` meets its contract. The loop's invariant: the entries before this place have been read.
+-- The measure is what is left of the 31.
 -- Assumes nothing.
 use Prim.Native.Nat.{_-_}
 use Rattle.below.specs.Made.{Made, made-all}

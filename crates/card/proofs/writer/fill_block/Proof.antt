@@ -66,8 +66,10 @@ same-length c = search needs
 
 returns : tie.Need-returns
 returns c =
-    search
-    (needs, block-written, entries-31 (c .before .before .before .before .before .before .before .before .before .before .before .before .before .before .before .before .before))
+    let five = c .before .before .before .before .before in
+    let ten = five .before .before .before .before .before in
+    let start = ten .before .before .before .before .before .before .before in
+    search (needs, block-written, entries-31 start)
 
 pub fill-block-spec : {M : Type 1} → statement M
 fill-block-spec =

@@ -74,8 +74,10 @@ same-length c =
 
 returns : tie.Need-returns
 returns c =
-    search
-    (needs, body-written, entries-31 (c .before .before .before .before .before .before .before .before .before .before .before .before .before .before .before))
+    let five = c .before .before .before .before .before in
+    let ten = five .before .before .before .before .before in
+    let start = ten .before .before .before .before .before in
+    search (needs, body-written, entries-31 start)
 
 pub fill-body-spec : {M : Type 1} → statement M
 fill-body-spec =

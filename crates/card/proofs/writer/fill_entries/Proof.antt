@@ -1,5 +1,5 @@
--- `card::writer::fill_entries` meets its contract. The loop's invariant: the entries before this place have been written.
--- The measure is what is left of the 31.
+-- `card::writer::fill_entries` meets its contract. The loop's invariant: the entries before this place have been
+-- written. The measure is what is left of the 31.
 -- Assumes nothing.
 use Prim.Native.Nat.{_-_}
 use Rattle.card.proofs.Blocks.{Filled, filled-none, filled-more, filled-all}
