@@ -1,16 +1,17 @@
 -- How a block and a reply are read and written, word by word.
 -- Assumes nothing.
-use mathlib.Core.Path.{_≡_, refl, sym, ap, ap₂, _∙_}
+use mathlib.Core.Path.{_≡_, refl, sym, ap, _∙_}
 use mathlib.Core.Bool.{Bool, true, false, cond}
 use mathlib.Core.List.{List, [], _∷_, _++_, append-assoc, append-nil}
 use Prim.Native.Nat.{ℕ, zero, suc, _+_, _*_, _/_, _%_, _^_, _≤_, _<_}
 use native.Mathlib.Nat.{zero-add}
 use native.Mathlib.Omega.{arith}
-use lib.ListN.{length, getD, set, drop, replicate, length-append, length-drop}
-use lib.Seq.{take-at, drop-at, drop-drop, drop-length, getD-take, getD-drop, sets, sets-eq}
+use lib.ListN.{length, getD, set, drop, replicate}
+use lib.Seq.{drop-length, getD-take, getD-drop, sets, sets-eq}
 use mir.Val.{boolByte}
 use borrow.Rule.Slice.PartMut.{putMid}
 use Rattle.below.specs.Copied.{Copied, copied-more}
+use Rattle.below.specs.Filled.{Filled, filled-more}
 use Rattle.reply.specs.Reply.{done, packet}
 use Rattle.queues.specs.Queues.{queuesOf}
 use Rattle.queues.specs.Opening.{field64}
@@ -69,32 +70,6 @@ pub record-read : (words tags share largest first waiting : List ℕ) → tags �
     ≡ recordOf words
 unfolding recordOf
 record-read words tags share largest first waiting t s l f w = rw (t, s, l, f, w)
-
--- a block w0 of which the first n words are now p
-pub record Filled (w0 : List ℕ) (n : ℕ) (p w : List ℕ) : Type 0 where
-  pub long : length p ≡ n
-  pub room : n ≤ length w0
-  pub so-far : w ≡ p ++ drop n w0
-
-module _ (w0 : List ℕ) (n : ℕ) (p w : List ℕ) (F : Filled w0 n p w) where
-  pub filled-length : length w ≡ length w0
-  filled-length = rw (F .so-far, length-append, length-drop, F .long) (omega (arith, F .room))
-
-  -- and the next k of which are q
-  pub filled-more : (k : ℕ) (q : List ℕ) → length q ≡ k → n + k ≤ length w0
-      → Filled w0 (n + k) (p ++ q) (putMid n k w q)
-  filled-more k q h l =
-      record {
-        long = length-append p q ∙ ap₂ _+_ (F .long) h;
-        room = l;
-        so-far = rw (
-          F .so-far,
-          take-at p (drop n w0) n (F .long),
-          drop-at p (drop n w0) n (F .long),
-          drop-drop k n w0,
-          append-assoc,
-        );
-      }
 
 -- the first three words
 head-filled : (w0 : List ℕ) (a b c : ℕ) → 3 ≤ length w0 → Filled w0 3 (a ∷ b ∷ c ∷ []) (set (set (set w0 0 a) 1 b) 2 c)

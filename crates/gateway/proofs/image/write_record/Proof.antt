@@ -3,7 +3,8 @@
 use native.Mathlib.Omega.{arith}
 use lib.ListN.{length-set}
 use borrow.Author.Needs.{needs}
-use Rattle.gateway.proofs.Blocks.{filled-length, filled-tags, filled-share, filled-largest, filled-first}
+use Rattle.below.specs.Filled.{filled-length}
+use Rattle.gateway.proofs.Blocks.{filled-tags, filled-share, filled-largest, filled-first}
 use Rattle.gateway.proofs.Blocks.{filled-all, record-written}
 use Rattle.gateway.proofs.image.write_record.Statement.{statement}
 use Rattle.gateway.proofs.image.write_record.Tie as tie
