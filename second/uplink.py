@@ -312,11 +312,16 @@ class Script:
         return [0, 0]
 
 
-def lines_of_input(data):
-    # "It reads the first 65,536 bytes of standard input. A line ends at a line feed, the last
-    # one also at the end of input; an empty rest after the last line feed is no line."
-    *lines, rest = data[:65_536].split(b"\n")
+def lines_of_script(data):
+    # "A line ends at a line feed, the last one also at the end of input; an empty rest after the
+    # last line feed is no line."
+    *lines, rest = data.split(b"\n")
     return lines + [rest] if rest else lines
+
+
+def lines_of_input(data):
+    # "It reads the first 65,536 bytes of standard input."
+    return lines_of_script(data[:65_536])
 
 
 def output_of_input(data, engine=FIRST_ENGINE):
@@ -326,7 +331,10 @@ def output_of_input(data, engine=FIRST_ENGINE):
 
 
 def main(engine=FIRST_ENGINE):
-    output = output_of_input(sys.stdin.buffer.read(65_536) if sys.stdin else b"", engine)
+    write_output(output_of_input(sys.stdin.buffer.read(65_536) if sys.stdin else b"", engine))
+
+
+def write_output(output):
     try:
         if sys.stdout:
             sys.stdout.buffer.write(output)
