@@ -48,7 +48,7 @@ class BlockMaker:
         if kind == card.IDLE:
             return card.IDLE_ENTRY
         return Entry(kind, self.dice.one_of([0, 63, self.dice.below(64), self.dice.below(64)]),
-                     self.dice.one_of([1, 255, 256, 1499, 1500, self.dice.between(1, 1500), self.dice.between(1, 1500)]),
+                     self.dice.one_of([self.dice.one_of([1, 255, 256, 1499, 1500]), self.dice.between(1, 1500)]),
                      self.dice.one_of([self.dice.one_of(HANDLES), self.dice.below(1000), self.dice.below(2**32)]),
                      self.dice.one_of([self.dice.one_of(CLOCKS), self.dice.below(10**9), self.dice.below(2**64)]))
 

@@ -116,7 +116,7 @@ def clock_of(record):
 
 
 class Log:
-    """The entries of calls one after the other, by an engine. `clock` gives what is logged as "clock after the call"."""
+    """The entries of calls one after the other, by an engine. `clock` gives the "clock after the call" of a record."""
 
     def __init__(self, engine=uplink.FIRST_ENGINE, clock=clock_of):
         self.engine, self.clock = engine, clock

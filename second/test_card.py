@@ -398,6 +398,7 @@ class Programs(Card):
         script = TWO_FLOWS + b"p\np\nf 1 1\no\np\na 0 1 1\nbad\n"
         self.assertEqual(card.logwrite(TWO_FLOWS + b"p\np\n"), card.logwrite(script))
         self.assertEqual(block_of(0, [card.IDLE_ENTRY] * 2), card.logwrite(script + b"o\np\n" * 40))
+        self.assertEqual([[], [card.IDLE_ENTRY] * 2], card.logs_of_calls(card.calls_of_script(script)))
 
     def test_bad_lines_do_nothing(self):
         script = TWO_FLOWS + b"p\na 0 1 1\np\n"
@@ -437,7 +438,8 @@ class Programs(Card):
     def test_every_figure_of_a_line(self):
         self.assertEqual(b"0 1 leap 63 1500 286397204 2387509390608836392\n", card.logread(SPELLED_BLOCK))
         entry = Entry(LEAP, 63, 1500, 2**32 - 1, 2**64 - 1)
-        self.assertEqual(b"0 1 leap 63 1500 4294967295 18446744073709551615\n", card.logread(block_of(2**32 - 1, [entry])))
+        block = block_of(2**32 - 1, [entry])
+        self.assertEqual(b"0 1 leap 63 1500 4294967295 18446744073709551615\n", card.logread(block))
 
     def run_program(self, words, data=b""):
         done = subprocess.run([sys.executable, str(PROGRAM), *words], input=data, capture_output=True)
