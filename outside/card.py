@@ -6,9 +6,10 @@ LIBRARY is the card's library as a shared object. After each call the answer, ev
 of the block are compared. Stops at the first difference.
 
 BLOCKS random contents are made. Each is written, and its block is read. Each byte of the block is damaged, one at a
-time, and the sums put right again; what is then accepted is written again. Every eighth damaged block is read with its
-sums left wrong. Random bytes are read, with right sums too; one word of the content becomes another one; block and
-content are lent too long and too short. With twenty blocks or more, all that is counted has to come up.
+time, and the sums put right again; blocks are made with a field on either side of a limit; what is then accepted is
+written again. Every eighth damaged block is read with its sums left wrong. Random bytes are read, with right sums too;
+one word of the content becomes another one; block and content are lent too long and too short. With twenty blocks or
+more, all that is counted has to come up.
 """
 
 import ctypes
@@ -35,7 +36,8 @@ WORD_BYTES = [4, 1, *card.MOST_ENTRIES * [*card.FIELDS.values()]]
 BLOCKS_ENOUGH = 20
 COUNTED = [*(f"{name} {number}" for name, numbers in (("write", (0, 1, 12, 101)), ("read", (0, 1, 11, 12, 101)))
              for number in numbers),
-           "damaged blocks accepted", "damaged blocks refused", "other words written", "other words refused",
+           "damaged blocks accepted", "damaged blocks refused", "blocks at a limit accepted",
+           "blocks at a limit refused", "other words written", "other words refused",
            "words that do not fit refused", "unused entries that are not zeros refused"]
 
 
@@ -138,6 +140,8 @@ class Run:
         self.write(words, self.bytes_before)
         self.read(bytes(block), self.words_before)
         self.damaged(maker, bytes(block))
+        for edge_block in maker.edge_blocks():
+            self.read_and_write(edge_block, "blocks at a limit")
         self.random_bytes(maker)
         self.misfits(words, bytes(block))
         for _ in range(OTHER_WORDS_PER_BLOCK):
@@ -149,11 +153,12 @@ class Run:
             if place % 8 == 0 or place >= card.SUMS:
                 self.read(damaged, self.words_before)
             if place < card.SUMS:
-                self.damaged_with_right_sums(with_right_sums(damaged))
+                self.read_and_write(with_right_sums(damaged), "damaged blocks")
 
-    def damaged_with_right_sums(self, block):
+    def read_and_write(self, block, label):
+        """Reads the block, and where it is accepted writes it again."""
         refused = self.read(block, self.words_before)
-        self.counts["damaged blocks refused" if refused else "damaged blocks accepted"] += 1
+        self.counts[f"{label} refused" if refused else f"{label} accepted"] += 1
         if not refused:
             self.write(words_of(*card.read_block(block)), self.bytes_before)
 

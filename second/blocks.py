@@ -11,6 +11,11 @@ HANDLES = [0, 1, 255, 256, 65_535, 65_536, 2**24, 2**31, 2**32 - 1]
 CLOCKS = [0, 1, 255, 256, 2**16, 2**32 - 1, 2**32, 2**62 - 1, 2**62, 2**63, 2**64 - 1]
 NUMBERS = [0, 1, 255, 256, 65_535, 2**31, 2**32 - 2, 2**32 - 1]
 COUNTS = [1, 2, 30, 31]
+# Both sides of each limit: the place of a field in a block or in an entry, its bytes, and values.
+HEAD_EDGES = [(4, 1, [0, 1, 30, 31, 32, 33, 255]), *((place, 1, [0, 1]) for place in range(5, card.FIRST_ENTRY))]
+ENTRY_EDGES = [(0, 1, [0, 1, 2, 3, 4, 5, 6, 7, 8, 255]), (1, 1, [0, 62, 63, 64, 65, 127, 128, 255]),
+               (2, 2, [0, 1, 2, 255, 256, 257, 1499, 1500, 1501, 1502, 1791, 1792, 2048, 65_535]),
+               (4, 4, [0, 1, 2**32 - 1]), (8, 8, [0, 1, 2**62, 2**64 - 1])]
 
 
 def block_of(number, entries):
@@ -25,8 +30,12 @@ def with_right_sums(block):
     return data + card.bytes_of_sums(data)
 
 
+def with_field(block, place, size, value):
+    return block[:place] + value.to_bytes(size, "little") + block[place + size:]
+
+
 def with_byte(block, place, value):
-    return block[:place] + bytes([value]) + block[place + 1:]
+    return with_field(block, place, 1, value)
 
 
 def content_or_refusal(block):
@@ -44,10 +53,12 @@ class BlockMaker:
         self.dice = traffic.Dice("block", *names)
 
     def entry(self):
-        kind = self.dice.one_of([card.ARRIVAL, card.PICK, card.LEAP, card.IDLE])
-        if kind == card.IDLE:
-            return card.IDLE_ENTRY
-        return Entry(kind, self.dice.one_of([0, 63, self.dice.below(64), self.dice.below(64)]),
+        return card.IDLE_ENTRY if self.dice.chance(25) else self.packet_entry()
+
+    def packet_entry(self):
+        """An arrival or a pick."""
+        return Entry(self.dice.one_of([card.ARRIVAL, card.PICK, card.LEAP]),
+                     self.dice.one_of([self.dice.one_of([0, 63]), self.dice.below(64)]),
                      self.dice.one_of([self.dice.one_of([1, 255, 256, 1499, 1500]), self.dice.between(1, 1500)]),
                      self.dice.one_of([self.dice.one_of(HANDLES), self.dice.below(1000), self.dice.below(2**32)]),
                      self.dice.one_of([self.dice.one_of(CLOCKS), self.dice.below(10**9), self.dice.below(2**64)]))
@@ -60,6 +71,20 @@ class BlockMaker:
 
     def block(self):
         return block_of(*self.content())
+
+    def edge_blocks(self):
+        """A block with one field after the other on either side of a limit, the sums put right again: in the head, in
+        an arrival or a pick, in an Idle, in the entry behind it and in the last one."""
+        number, others = self.content()
+        packet = self.dice.below(min(len(others), 29) + 1)
+        entries = [*others[:packet], self.packet_entry(), *others[packet:29], card.IDLE_ENTRY]
+        edges = list(HEAD_EDGES)
+        for entry in sorted({packet, len(entries) - 1, min(len(entries), 30), 30}):
+            start = card.FIRST_ENTRY + card.ENTRY_BYTES * entry
+            edges += [(start + place, size, values) for place, size, values in ENTRY_EDGES]
+        block = block_of(number, entries)
+        return [with_right_sums(with_field(block, place, size, value)) for place, size, values in edges
+                for value in values]
 
     def other_value(self, value):
         """Another value of a byte, mostly close by."""

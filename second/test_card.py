@@ -279,6 +279,11 @@ class Damage(Card):
             for place, bit in itertools.product(range(512), range(8)):
                 self.read_refused(11, with_byte(block, place, block[place] ^ 1 << bit))
 
+    def test_three_bits_may_go_unseen(self):
+        # Bit 1 of a clock's byte from 1 to 0, and bit 0 of the bytes before and behind it from 0 to 1.
+        block = self.written(0, [AN_ENTRY._replace(clock=0x00_02_00)])
+        self.assertEqual(block[508:], self.written(0, [AN_ENTRY._replace(clock=0x01_00_01)])[508:])
+
     def test_two_bytes_go_unseen_only_257_apart_as_0_and_255(self):
         # One byte more by `change`, one `apart` behind it less by as much: no other two changes leave the first sum.
         unseen = [(change, apart) for change in range(1, 256) for apart in range(1, 508)
