@@ -7,9 +7,9 @@ of the block are compared. Stops at the first difference.
 
 BLOCKS random contents are made. Each is written, and its block is read. Each byte of the block is damaged, one at a
 time, and the sums put right again; blocks are made with a field on either side of a limit; what is then accepted is
-written again. Every eighth damaged block is read with its sums left wrong. Random bytes are read, with right sums too;
-one word of the content becomes another one; block and content are lent too long and too short. With twenty blocks or
-more, all that is counted has to come up.
+written again. Every eighth damaged block is read with its sums left wrong. Random bytes are read, with right sums too.
+A content without an entry is written, and contents with one word that is another; block and content are lent too long
+and too short. With twenty blocks or more, all that is counted has to come up.
 """
 
 import ctypes
@@ -22,7 +22,7 @@ sys.dont_write_bytecode = True
 sys.path.insert(0, str(pathlib.Path(__file__).resolve().parent.parent / "second"))
 
 import card
-from blocks import BlockMaker, with_byte, with_right_sums
+from blocks import BLOCKS_OF_SUM_0, BlockMaker, with_65_535_for_0, with_byte, with_right_sums
 
 REFUSED_CONTENT = 101
 CONTENT_WORDS, HEAD_WORDS, ENTRY_WORDS = 157, 2, len(card.FIELDS)
@@ -38,7 +38,8 @@ COUNTED = [*(f"{name} {number}" for name, numbers in (("write", (0, 1, 12, 101))
              for number in numbers),
            "damaged blocks accepted", "damaged blocks refused", "blocks at a limit accepted",
            "blocks at a limit refused", "other words written", "other words refused",
-           "words that do not fit refused", "unused entries that are not zeros refused"]
+           "words that do not fit refused", "unused entries that are not zeros refused",
+           "contents without an entry refused"]
 
 
 def words_of(number, entries):
@@ -143,6 +144,7 @@ class Run:
         for edge_block in maker.edge_blocks():
             self.read_and_write(edge_block, "blocks at a limit")
         self.random_bytes(maker)
+        self.counts["contents without an entry refused"] += self.write([number] + [0] * 156, self.bytes_before) == 12
         self.misfits(words, bytes(block))
         for _ in range(OTHER_WORDS_PER_BLOCK):
             self.other_word(maker, words)
@@ -161,6 +163,11 @@ class Run:
         self.counts[f"{label} refused" if refused else f"{label} accepted"] += 1
         if not refused:
             self.write(words_of(*card.read_block(block)), self.bytes_before)
+
+    def sums_of_0(self):
+        """Blocks with a sum of 0, and with 65,535 in the place of it."""
+        for block in [*BLOCKS_OF_SUM_0.values(), *with_65_535_for_0()]:
+            self.read(block, self.words_before)
 
     def random_bytes(self, maker):
         block = maker.random_bytes(card.BLOCK_BYTES)
@@ -198,6 +205,7 @@ class Run:
 def main():
     blocks, seed = int(sys.argv[2]), int(sys.argv[3])
     run = Run(sys.argv[1], seed)
+    run.sums_of_0()
     for index in range(blocks):
         run.one_block(index)
     print(", ".join(f"{run.counts[thing]} {thing}" for thing in COUNTED))

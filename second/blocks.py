@@ -38,6 +38,21 @@ def with_byte(block, place, value):
     return with_field(block, place, 1, value)
 
 
+# Legal blocks by the place of a stored sum that is 0, since it is 65,535 before the remainder.
+# The first sum: the count 20; 19 entries of 2 + 63 + 255 + 4 + 4 x 255 + 8 x 255 = 3,384; one of 1 + 1 + 4 x 255 + 197.
+# The second: 504 for the count, 496 + 494 for kind and length, 5 x 508 for the block's number, 3 x 492 + 489 for the
+# handle and 122 x 488 for the clock.
+BLOCKS_OF_SUM_0 = {
+    508: block_of(0, [Entry(card.PICK, 63, 1279, 2**32 - 1, 2**64 - 1)] * 19
+                  + [Entry(card.ARRIVAL, 0, 1, 2**32 - 1, 197)]),
+    510: block_of(5, [Entry(card.ARRIVAL, 0, 1, 0x01000003, 122)])}
+
+
+def with_65_535_for_0():
+    """These blocks with 65,535 in the place of that 0: a wrong sum."""
+    return [with_field(block, place, 2, 65_535) for place, block in BLOCKS_OF_SUM_0.items()]
+
+
 def content_or_refusal(block):
     """The block's number and entries, or the refusal's number."""
     try:

@@ -15,7 +15,8 @@ import examples
 import plain
 import test_uplink
 import traffic
-from blocks import BlockMaker, block_of, content_or_refusal, with_byte, with_right_sums
+from blocks import (BLOCKS_OF_SUM_0, BlockMaker, block_of, content_or_refusal, with_65_535_for_0, with_byte,
+                    with_right_sums)
 from card import ARRIVAL, IDLE, LEAP, PICK, Entry
 
 PROGRAM = pathlib.Path(__file__).with_name("card.py")
@@ -190,32 +191,19 @@ class Limits(Card):
             self.read_refused(12, with_right_sums(block))
 
     def test_stored_sums(self):
-        # A sum of 0 is written as 0 and not as 65,535, though 65,535 is 0 modulo 65,535.
-        for place, block in (508, self.block_of_first_sum_0()), (510, self.block_of_second_sum_0()):
+        # A sum of 0 is written as 0 and not as 65,535, though 65,535 is 0 modulo 65,535. What the sums of these two
+        # blocks are before the remainder is worked out beside them.
+        first, second = (block[:508] for block in BLOCKS_OF_SUM_0.values())
+        self.assertEqual((65_535, 65_535), (sum(first), sum(itertools.accumulate(second))))
+        for place, block in BLOCKS_OF_SUM_0.items():
             self.assertEqual(bytes(2), block[place:place + 2])
             card.read_block(block)
             self.read_refused(11, block[:place] + b"\xff\xff" + block[place + 2:])
+        self.assertEqual([11, 11], [content_or_refusal(block) for block in with_65_535_for_0()])
         for place, value in itertools.product(range(508, 512), range(256)):
             if WORKED_BLOCK[place] != value:
                 self.read_refused(11, with_byte(WORKED_BLOCK, place, value))
         self.read_refused(11, WORKED_BLOCK[:508] + WORKED_BLOCK[510:] + WORKED_BLOCK[508:510])
-
-    def block_of_first_sum_0(self):
-        """A legal block with 65,535 as the sum of its bytes before the remainder."""
-        full = Entry(PICK, 63, 1279, 2**32 - 1, 2**64 - 1)
-        self.assertEqual(3384, sum(card.bytes_of_entry(full)))
-        # 19 such entries are 64,296 and the count is 20, so 1,219 are left: 1 + 1 + 1,020 + 197.
-        last = Entry(ARRIVAL, 0, 1, 2**32 - 1, 197)
-        block = self.written(0, [full] * 19 + [last])
-        self.assertEqual(65_535, sum(block[:508]))
-        return block
-
-    def block_of_second_sum_0(self):
-        """A legal block with 65,535 as its second sum before the remainder: 504 for the count, 496 + 494 for kind and
-        length, 5 x 508 for the block's number, 3 x 492 + 489 for the handle and 122 x 488 for the clock."""
-        block = self.written(5, [Entry(ARRIVAL, 0, 1, 0x01000003, 122)])
-        self.assertEqual(65_535, sum(itertools.accumulate(block[:508])))
-        return block
 
     def test_the_order_of_refusals(self):
         wrong_fields = with_byte(WORKED_BLOCK, 12, 9)
