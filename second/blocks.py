@@ -61,6 +61,11 @@ def content_or_refusal(block):
         return refusal.number
 
 
+def at_edges(block, edges):
+    """The block with one field after the other at each of its values, the sums put right again."""
+    return [with_right_sums(with_field(block, place, size, value)) for place, size, values in edges for value in values]
+
+
 class BlockMaker:
     """Random contents that are not refused, with corners of every field, and damage to their blocks."""
 
@@ -89,7 +94,7 @@ class BlockMaker:
 
     def edge_blocks(self):
         """A block with one field after the other on either side of a limit, the sums put right again: in the head, in
-        an arrival or a pick, in an Idle, in the entry behind it and in the last one."""
+        an arrival or a pick, in an Idle, in the entry behind it and in the last one; a full block so in the head."""
         number, others = self.content()
         packet = self.dice.below(min(len(others), 29) + 1)
         entries = [*others[:packet], self.packet_entry(), *others[packet:29], card.IDLE_ENTRY]
@@ -97,9 +102,8 @@ class BlockMaker:
         for entry in sorted({packet, len(entries) - 1, min(len(entries), 30), 30}):
             start = card.FIRST_ENTRY + card.ENTRY_BYTES * entry
             edges += [(start + place, size, values) for place, size, values in ENTRY_EDGES]
-        block = block_of(number, entries)
-        return [with_right_sums(with_field(block, place, size, value)) for place, size, values in edges
-                for value in values]
+        full = block_of(number, [self.entry() for _ in range(card.MOST_ENTRIES)])
+        return at_edges(block_of(number, entries), edges) + at_edges(full, HEAD_EDGES)
 
     def other_value(self, value):
         """Another value of a byte, mostly close by."""
