@@ -1,6 +1,7 @@
 /* How much stack a call of the library takes, with the return address and the arguments that stand there: a stack of
  * its own is painted, the call is made on it, and the lowest byte that changed is looked for. Prints for each call the
- * most that it took, opened tables of 1 and of 64 flows, refused calls and Idle among them.
+ * most that it took, opened tables of 1 and of 64 flows, refused calls and Idle among them, and blocks of the log card,
+ * full ones and others.
  *
  * tools/bench --stack builds and runs it. It has to be compiled without optimisation and with
  * -maccumulate-outgoing-args: then the stack pointer does not move while the arguments of a call are put there. */
@@ -8,10 +9,11 @@
 #include <stdio.h>
 #include <string.h>
 #include <ucontext.h>
+#include "card.h"
 #include "uplink.h"
 
 enum { STACK_BYTES = 1 << 16, PAINT = 0xa5, MOST_FLOWS = 64, PACKETS = 200, WORD_BYTES = 8 };
-enum call { OPENING, ARRIVAL, PICK, DEPTH, CALLS };
+enum call { OPENING, ARRIVAL, PICK, DEPTH, WRITE, READ, CALLS };
 
 static unsigned char stack[STACK_BYTES] __attribute__((aligned(4096)));
 static unsigned char *top; /* where the stack stood before the call and its arguments */
@@ -20,6 +22,9 @@ static uint64_t record[UPLINK_RECORD_WORDS], reply[UPLINK_REPLY_WORDS], depth[UP
 static uint16_t lengths[UPLINK_PLACES];
 static uint32_t handles[UPLINK_PLACES], shares[MOST_FLOWS], largest[MOST_FLOWS];
 static uint32_t flows, header, flow, length;
+static struct card_block content;
+static uint8_t block[CARD_BLOCK_BYTES];
+static size_t block_bytes;
 static long most[CALLS];
 
 /* Notes the top: so many arguments of the call that follows stand on the stack. */
@@ -54,10 +59,23 @@ static void call_depth(void)
     uplink_depth(flow, record, UPLINK_RECORD_WORDS, depth, UPLINK_DEPTH_WORDS);
 }
 
+static void call_write(void)
+{
+    NOTE_TOP(0);
+    card_write(&content.number, CARD_CONTENT_WORDS, block, block_bytes);
+}
+
+static void call_read(void)
+{
+    NOTE_TOP(0);
+    card_read(block, block_bytes, &content.number, CARD_CONTENT_WORDS);
+}
+
 /* Makes the call on a painted stack. */
 static void measure(enum call call)
 {
-    static void (*const calls[CALLS])(void) = {call_opening, call_arrival, call_pick, call_depth};
+    static void (*const calls[CALLS])(void) = {call_opening, call_arrival, call_pick, call_depth, call_write,
+                                                call_read};
     long lowest = 0;
 
     memset(stack, PAINT, sizeof stack);
@@ -93,9 +111,27 @@ static void measure_table(uint32_t count)
     measure(PICK);
 }
 
+/* A block of so many entries, written and read; then the same with a field outside the rules, and of another size. */
+static void measure_block(uint64_t count)
+{
+    content = (struct card_block){.number = 7, .count = count};
+    for (uint64_t k = 0; k < count; k++)
+        content.entries[k] = (struct card_entry){CARD_LEAP, 63, 1500, UINT32_MAX, UINT64_MAX};
+    block_bytes = CARD_BLOCK_BYTES;
+    measure(WRITE);
+    measure(READ);
+    block[4] ^= 1;
+    measure(READ);
+    content.entries[0].flow = 64;
+    measure(WRITE);
+    block_bytes--;
+    measure(WRITE);
+    measure(READ);
+}
+
 int main(void)
 {
-    static const char *const names[CALLS] = {"opening", "arrival", "pick", "depth"};
+    static const char *const names[CALLS] = {"opening", "arrival", "pick", "depth", "write", "read"};
 
     for (uint32_t f = 0; f < MOST_FLOWS; f++) {
         shares[f] = 15;
@@ -103,6 +139,8 @@ int main(void)
     }
     measure_table(1);
     measure_table(MOST_FLOWS);
+    measure_block(1);
+    measure_block(CARD_ENTRIES);
     for (int call = 0; call < CALLS; call++)
         printf("%-8s %6ld bytes\n", names[call], most[call]);
     return 0;
