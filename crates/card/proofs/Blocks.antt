@@ -8,51 +8,36 @@ use lib.ListN.{length, getD, set, replicate}
 use lib.Seq.{take-at, take-all}
 use borrow.Rule.Slice.PartMut.{midOf, putMid}
 use Rattle.below.specs.Listed.{listed}
-use Rattle.below.specs.Copied.{Copied, copied-none, copied-more, copied-part, copied-all, copied-length}
+use Rattle.below.specs.Copied.{copied-none, copied-more, copied-part, copied-all}
+use Rattle.below.specs.Joined.{Joining, joining-none, joining-more, joining-all}
 use Rattle.below.specs.Made.{Made, made-none, made-more}
 use Rattle.fields.specs.Bytes.{bytesOf, numberOf, part}
 use Rattle.fields.specs.Laws.{copied-number}
 use Rattle.sums.specs.Sums.{sumsOf}
 use Rattle.sums.specs.declared.Sums.{Sums}
 use Rattle.entries.specs.Entry.{entryBytes, entryOf, noEntry}
+use Rattle.entries.specs.Laws.{entry-sixteen}
 use Rattle.entries.specs.declared.Entry.{Entry}
 use Rattle.card.specs.declared.Block.{Block}
 use Rattle.card.specs.Block.{entriesBytes, bodyBytes, blockBytes, entryAt, blockOf}
-use Rattle.card.specs.Laws.{entries-long, entries-at, entries-size, body-size, block-size, block-body}
+use Rattle.card.specs.Laws.{entries-size, body-size, block-size, block-body}
 use Rattle.card.specs.Laws.{block-first, block-second}
 
 -- the bytes of the first k entries have been written
-pub record Filled (entries : List Entry) (bytes0 bytes : List ℕ) (k : ℕ) : Type 0 where
-  pub within : k ≤ 31
-  pub size : length bytes ≡ 496
-  pub filled : Copied (entriesBytes entries) bytes0 (16 * k) bytes
+abbrev pub Filling : List Entry → List ℕ → List ℕ → ℕ → Type 0
+Filling entries bytes0 bytes k = Joining entryBytes 16 31 496 entries bytes0 bytes k
 
 module _ (entries : List Entry) (all : length entries ≡ 31) (bytes0 : List ℕ) (long : length bytes0 ≡ 496) where
-  size : length (entriesBytes entries) ≡ 496
-  size = entries-long entries ∙ ap (λ n. 16 * n) all
+  pub filling-none : Filling entries bytes0 bytes0 0
+  filling-none = joining-none entryBytes 16 entry-sixteen refl entries all bytes0 long
 
-  abbrev same : length (entriesBytes entries) ≡ length bytes0
-  same = size ∙ sym long
-
-  pub filled-none : Filled entries bytes0 bytes0 0
-  filled-none =
-      record { within = omega arith; size = long; filled = copied-none (entriesBytes entries) bytes0 same }
-
-  pub filled-more : {bytes p : List ℕ} {k : ℕ} → Filled entries bytes0 bytes k → k < 31
+  pub filling-more : {bytes p : List ℕ} {k : ℕ} → Filling entries bytes0 bytes k → k < 31
       → p ≡ entryBytes (getD entries k noEntry)
-      → Filled entries bytes0 (putMid (16 * k) (16 * k + 16 - 16 * k) bytes p) (k + 1)
-  filled-more {bytes} {p} {k} f h e =
-      let n : 16 * k + 16 ≡ 16 * (k + 1) = omega arith in
-      let w : 16 * k + 16 - 16 * k ≡ 16 = omega arith in
-      let c = copied-part (entriesBytes entries) bytes0 same (16 * k) 16 bytes p (omega (arith, size))
-      (e ∙ sym (entries-at entries k (omega arith))) (f .filled) in
-      let l = copied-length (entriesBytes entries) bytes0 same (16 * k + 16) _ (omega (arith, size)) c in
-      rw w (record { within = omega arith; size = l ∙ long; filled = rw n at c })
+      → Filling entries bytes0 (putMid (16 * k) (16 * k + 16 - 16 * k) bytes p) (k + 1)
+  filling-more = joining-more entryBytes 16 entry-sixteen refl entries all bytes0 long noEntry
 
-  pub filled-all : {bytes : List ℕ} {k : ℕ} → Filled entries bytes0 bytes k → 31 ≤ k → bytes ≡ entriesBytes entries
-  filled-all {bytes} {k} f h =
-      copied-all (entriesBytes entries) bytes0 same (16 * k) bytes (omega (arith, size))
-      (omega (arith, size, f .within)) (f .filled)
+  pub filling-all : {bytes : List ℕ} {k : ℕ} → Filling entries bytes0 bytes k → 31 ≤ k → bytes ≡ entriesBytes entries
+  filling-all = joining-all entryBytes 16 entry-sixteen refl entries all bytes0 long
 
 module _ (b : Block) (all : length (b .entries) ≡ 31) (bytes : List ℕ) where
   -- bytes 0 to 507, as they are left

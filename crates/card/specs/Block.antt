@@ -3,12 +3,13 @@
 -- Assumes nothing.
 use mathlib.Core.Path.{_≡_}
 use mathlib.Core.Bool.{Bool, cond, _&&_}
-use mathlib.Core.List.{List, [], _∷_, _++_}
+use mathlib.Core.List.{List, _∷_, _++_}
 use Prim.Native.Nat.{ℕ, _+_, _*_, _^_, _<_}
 use lib.Dec.{eqb, leb, ltb}
 use lib.ListN.{length, getD, replicate}
 use Rattle.below.specs.Below.{allBelow}
 use Rattle.below.specs.Listed.{listed}
+use Rattle.below.specs.Joined.{joined}
 use Rattle.fields.specs.Bytes.{bytesOf, numberOf, part}
 use Rattle.sums.specs.Sums.{sumsOf}
 use Rattle.entries.specs.Entry.{entryBytes, entryOf, noEntry, EntryFits}
@@ -20,9 +21,8 @@ use Rattle.card.specs.declared.Block.{Block}
 -- ---- from content to bytes
 
 -- "31 entries of 16 bytes"
-unfoldable pub entriesBytes : List Entry → List ℕ
-entriesBytes [] = []
-entriesBytes (e ∷ entries) = entryBytes e ++ entriesBytes entries
+abbrev pub entriesBytes : List Entry → List ℕ
+entriesBytes = joined entryBytes
 
 -- bytes 0 to 507: "block number in 0 to 3, entry count 1 to 31 in 4, zeros in 5 to 11, then 31 entries"
 unfoldable pub bodyBytes : Block → List ℕ

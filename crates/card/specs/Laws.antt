@@ -1,45 +1,26 @@
 -- The bytes of a block, part by part: what is where, and how long. The entries and the two sums are read off at once.
 -- Assumes nothing.
-use mathlib.Core.Path.{_≡_, refl, sym, ap, _∙_}
-use mathlib.Core.List.{List, [], _∷_, _++_}
-use Prim.Native.Nat.{ℕ, zero, suc, _+_, _*_, _≤_, _<_}
-use native.Mathlib.Nat.{not-suc-le-zero, le-of-suc-le-suc}
+use mathlib.Core.Path.{_≡_, sym, ap, _∙_}
+use mathlib.Core.List.{List}
+use Prim.Native.Nat.{ℕ, _+_, _*_, _≤_, _<_}
 use native.Mathlib.Omega.{arith}
 use lib.ListN.{length, getD, take, drop, length-append, length-drop}
-use lib.Seq.{take-at, drop-at, drop-append-add, drop-append-le, take-append-le, drop-drop}
+use lib.Seq.{take-at, drop-at, drop-append-le, take-append-le, drop-drop}
+use Rattle.below.specs.Joined.{joined-long, joined-at}
 use Rattle.fields.specs.Bytes.{bytesOf, part}
 use Rattle.sums.specs.Sums.{sumsOf}
 use Rattle.sums.specs.declared.Sums.{Sums}
 use Rattle.entries.specs.Entry.{entryBytes, noEntry}
 use Rattle.entries.specs.Laws.{entry-sixteen}
-use Rattle.entries.specs.declared.Entry.{Entry}
 use Rattle.card.specs.declared.Block.{Block}
 use Rattle.card.specs.Block.{entriesBytes, bodyBytes, sumBytes, blockBytes}
-
-pub entries-long : (entries : List Entry) → length (entriesBytes entries) ≡ 16 * length entries
-unfolding entriesBytes
-entries-long [] = refl
-entries-long (e ∷ entries) =
-    length-append (entryBytes e) (entriesBytes entries) ∙ omega (arith, entry-sixteen e, entries-long entries)
-
--- sixteen bytes from 16 k on are entry k's
-pub entries-at : (entries : List Entry) (k : ℕ) → k < length entries
-    → part (entriesBytes entries) (16 * k) 16 ≡ entryBytes (getD entries k noEntry)
-unfolding entriesBytes
-entries-at [] k h = absurd (not-suc-le-zero h)
-entries-at (e ∷ entries) zero h = take-at (entryBytes e) (entriesBytes entries) 16 (entry-sixteen e)
-entries-at (e ∷ entries) (suc k) h =
-    let n : 16 * suc k ≡ length (entryBytes e) + 16 * k = omega (arith, entry-sixteen e) in
-    ap (λ at. take 16 (drop at (entryBytes e ++ entriesBytes entries))) n
-    ∙ ap (take 16) (drop-append-add (entryBytes e) (entriesBytes entries) (16 * k))
-    ∙ entries-at entries k (le-of-suc-le-suc h)
 
 module _ (b : Block) (all : length (b .entries) ≡ 31) where
   abbrev sums : Sums
   sums = sumsOf (bodyBytes b)
 
   pub entries-size : length (entriesBytes (b .entries)) ≡ 496
-  entries-size = entries-long (b .entries) ∙ ap (λ n. 16 * n) all
+  entries-size = joined-long entryBytes 16 entry-sixteen (b .entries) ∙ ap (λ n. 16 * n) all
 
   pub body-size : length (bodyBytes b) ≡ 508
   unfolding bodyBytes bytesOf
@@ -73,4 +54,4 @@ module _ (b : Block) (all : length (b .entries) ≡ 31) where
       ap (take 16) (sym (drop-drop (16 * k) 12 (blockBytes b)))
       ∙ ap (take 16) (drop-append-le (16 * k) bytes (sumBytes sums) (omega arith))
       ∙ take-append-le 16 (drop (16 * k) bytes) (sumBytes sums) (simp length-drop (omega arith))
-      ∙ entries-at (b .entries) k (omega (arith, all))
+      ∙ joined-at entryBytes 16 entry-sixteen (b .entries) k noEntry (omega (arith, all))

@@ -4,7 +4,7 @@
 use mathlib.Core.Path.{_≡_, refl, sym, ap, ap₂, _∙_}
 use mathlib.Core.Bool.{Bool, true, false, cond, _&&_}
 use mathlib.Core.List.{List, _∷_, _++_}
-use Prim.Native.Nat.{ℕ, zero, suc, _+_, _*_, _≤_, _<_}
+use Prim.Native.Nat.{ℕ, _+_, _*_, _≤_, _<_}
 use native.Mathlib.Nat.{zero-add}
 use native.Mathlib.Omega.{arith}
 use lib.Dec.{eqb}
@@ -12,13 +12,14 @@ use lib.ListN.{length, getD, take, replicate}
 use lib.Seq.{drop-cons, take-all, ext-getD}
 use borrow.Author.Tests.{eq-eqb, eqb-true}
 use Rattle.below.specs.Truth.{both-true}
-use Rattle.below.specs.Listed.{listed, length-listed, listed-at}
+use Rattle.below.specs.Listed.{listed, length-listed, listed-at, listed-here}
+use Rattle.below.specs.Joined.{joined-again}
 use Rattle.fields.specs.Bytes.{bytesOf, numberOf, part, Small}
-use Rattle.fields.specs.Laws.{number-bytes, part-length, part-small, part-join, part-again}
+use Rattle.fields.specs.Laws.{number-bytes, part-below, part-length, part-small, part-join, part-again}
 use Rattle.sums.specs.Sums.{sumsOf, sumsRight}
 use Rattle.sums.specs.Laws.{first-fits, second-fits}
-use Rattle.entries.specs.Entry.{entryOf, noEntry}
-use Rattle.entries.specs.Laws.{entry-read, entry-again}
+use Rattle.entries.specs.Entry.{entryBytes, entryOf, noEntry}
+use Rattle.entries.specs.Laws.{entry-sixteen, entry-small, entry-read, entry-again}
 use Rattle.card.specs.declared.Block.{Block}
 use Rattle.card.specs.declared.Reading.{Reading}
 use Rattle.card.specs.Block.{entriesBytes, bodyBytes, sumBytes, blockBytes, entryAt, blockOf, headBlank}
@@ -79,17 +80,10 @@ unfolding bytesOf
 zero-bytes = refl
 
 module _ (bytes : List ℕ) (s : Small bytes) where
-  entries-again : (k n : ℕ) → 12 + 16 * k + 16 * n ≤ length bytes
-      → entriesBytes (listed (entryAt bytes) k n) ≡ part bytes (12 + 16 * k) (16 * n)
-  unfolding listed entriesBytes
-  entries-again k zero h = refl
-  entries-again k (suc n) h =
-      let at : 12 + 16 * suc k ≡ 12 + 16 * k + 16 = omega arith in
-      let width : 16 + 16 * n ≡ 16 * suc n = omega arith in
-      ap₂ _++_ (entry-again (part bytes (12 + 16 * k) 16) (part-length bytes (12 + 16 * k) 16 (omega arith))
-      (part-small bytes (12 + 16 * k) 16 s))
-      (entries-again (suc k) n (omega arith) ∙ ap (λ j. part bytes j (16 * n)) at)
-      ∙ part-join bytes (12 + 16 * k) 16 (16 * n) ∙ ap (part bytes (12 + 16 * k)) width
+  entries-again : 508 ≤ length bytes → entriesBytes (listed (entryAt bytes) 0 31) ≡ part bytes 12 496
+  entries-again h = joined-again entryBytes 16 entry-sixteen (entryAt bytes) bytes 12 (λ k l.
+      entry-again (part bytes (12 + 16 * k) 16) (part-length bytes (12 + 16 * k) 16 l)
+      (part-small bytes (12 + 16 * k) 16 s)) 0 31 h
 
   module _ (long : length bytes ≡ 512) (zeros : numberOf (part bytes 5 7) ≡ 0) where
     body-again : bodyBytes (blockOf bytes) ≡ part bytes 0 508
@@ -97,7 +91,7 @@ module _ (bytes : List ℕ) (s : Small bytes) where
     body-again =
         let blank : replicate 7 0 ≡ part bytes 5 7 =
         sym zero-bytes ∙ ap (bytesOf 7) (sym zeros) ∙ part-again bytes 5 7 s (omega arith) in
-        let five = ap₂ _++_ blank (entries-again 0 31 (omega arith)) ∙ part-join bytes 5 7 496 in
+        let five = ap₂ _++_ blank (entries-again (omega arith)) ∙ part-join bytes 5 7 496 in
         ap₂ _++_ (part-again bytes 0 4 s (omega arith)) (ap (λ t. getD bytes 4 0 ∷ t) five)
         ∙ ap (λ t. part bytes 0 4 ++ t) (ap (take 504) (sym (drop-cons bytes 4 0 (omega arith))))
         ∙ part-join bytes 0 4 504
@@ -112,6 +106,20 @@ module _ (bytes : List ℕ) (s : Small bytes) where
         (ap (bytesOf 2) (sym two) ∙ part-again bytes 510 2 s (omega arith)) ∙ part-join bytes 508 2 2 in
         ap (λ m. m ++ (bytesOf 2 (sumsOf m .first) ++ bytesOf 2 (sumsOf m .second))) body-again
         ∙ ap (λ t. part bytes 0 508 ++ t) tail ∙ part-join bytes 0 508 4 ∙ take-all 512 bytes (omega arith)
+
+-- what 512 bytes say fits its fields
+pub block-small : (bytes : List ℕ) → length bytes ≡ 512 → Small bytes → BlockFits (blockOf bytes)
+unfolding blockOf
+block-small bytes h s =
+    record {
+      number = part-below bytes 0 4 s (omega arith);
+      count = s 4;
+      all = length-listed (entryAt bytes) 0 31;
+      each = λ k l. let e : entryAt bytes k ≡ getD (listed (entryAt bytes) 0 31) k noEntry =
+          sym (listed-here (entryAt bytes) 31 k noEntry l) in
+          rw e at (entry-small (part bytes (12 + 16 * k) 16) (part-length bytes (12 + 16 * k) 16 (omega arith))
+          (part-small bytes (12 + 16 * k) 16 s));
+    }
 
 -- a test whose other branch is a refusal has held
 passed : (t : Bool) (x y : Reading) → (y .refusal ≡ 0 → ⊥) → cond t x y .refusal ≡ 0 → t ≡ true

@@ -9,13 +9,14 @@ use lib.Dec.{eqb}
 use lib.ListN.{set, take, replicate}
 use Rattle.below.specs.Below.{allBelow}
 use Rattle.below.specs.Listed.{listed}
+use Rattle.below.specs.Joined.{joined}
 use Rattle.fields.specs.Bytes.{bytesOf, numberOf, part}
 use Rattle.sums.specs.Sums.{total, running, sumsOf, sumsRight}
 use Rattle.entries.specs.Entry.{entryBytes, entryOf, noEntry}
 use Rattle.entries.specs.Legal.{kindOf, packetLegal, restBlank, entryLegal, entryBlank}
 use Rattle.entries.specs.declared.Entry.{Entry}
 use Rattle.card.specs.declared.Block.{Block}
-use Rattle.card.specs.Block.{entriesBytes, bodyBytes, sumBytes, blockBytes, blockOf, entryMay, blockLegal}
+use Rattle.card.specs.Block.{bodyBytes, sumBytes, blockBytes, blockOf, entryMay, blockLegal}
 use Rattle.card.specs.Card.{readRule, writeRule}
 
 abbrev entry : ℕ → ℕ → ℕ → ℕ → ℕ → Entry
@@ -148,18 +149,18 @@ blocks =
     ∷ []
 
 pub rows-hold : all (rows ++ blocks) ≡ true
-unfolding all rows blocks summed readRule writeRule blockBytes bodyBytes entriesBytes entryBytes bytesOf sumBytes total
+unfolding all rows blocks summed readRule writeRule blockBytes bodyBytes joined entryBytes bytesOf sumBytes total
     running sumsRight numberOf blockOf listed entryOf blockLegal allBelow entryMay entryLegal kindOf packetLegal
     restBlank entryBlank
 rows-hold = refl
 
 -- the worked block's sums, and its first 28 bytes: number, count, zeros and the first entry. docs/CARD.md spells it out
 pub worked-sums : sumsOf (bodyBytes worked) ≡ record { first = 717; second = 2482 }
-unfolding bodyBytes entriesBytes entryBytes bytesOf total running
+unfolding bodyBytes joined entryBytes bytesOf total running
 worked-sums = refl
 
 pub worked-head : take 28 (blockBytes worked)
     ≡ 0 ∷ 0 ∷ 0 ∷ 0 ∷ 5 ∷ 0 ∷ 0 ∷ 0 ∷ 0 ∷ 0 ∷ 0 ∷ 0
     ∷ 1 ∷ 0 ∷ 100 ∷ 0 ∷ 7 ∷ 0 ∷ 0 ∷ 0 ∷ 0 ∷ 0 ∷ 0 ∷ 0 ∷ 0 ∷ 0 ∷ 0 ∷ 0 ∷ []
-unfolding blockBytes bodyBytes entriesBytes entryBytes bytesOf
+unfolding blockBytes bodyBytes joined entryBytes bytesOf
 worked-head = refl

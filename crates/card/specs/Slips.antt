@@ -9,13 +9,14 @@ use lib.Dec.{eqb}
 use lib.ListN.{length, set, take, replicate}
 use Rattle.below.specs.Below.{allBelow}
 use Rattle.below.specs.Listed.{listed}
+use Rattle.below.specs.Joined.{joined}
 use Rattle.fields.specs.Bytes.{bytesOf, numberOf}
 use Rattle.sums.specs.Sums.{total, running, sumsRight}
 use Rattle.entries.specs.Entry.{entryBytes, entryOf}
 use Rattle.entries.specs.Legal.{kindOf, packetLegal, restBlank, entryLegal, entryBlank}
 use Rattle.card.specs.declared.Block.{Block}
 use Rattle.card.specs.declared.Reading.{Reading}
-use Rattle.card.specs.Block.{entriesBytes, bodyBytes, sumBytes, blockBytes, blockOf, headBlank, entryMay}
+use Rattle.card.specs.Block.{bodyBytes, sumBytes, blockBytes, blockOf, headBlank, entryMay}
 use Rattle.card.specs.Block.{blockLegal}
 use Rattle.card.specs.Card.{accepted, refused, readRule, Written, written, writeRule}
 use Rattle.card.specs.Rows.{worked, changed, summed}
@@ -62,6 +63,6 @@ pub slips-differ :
     && not (eqb (longTaken long .refusal) (readRule long .refusal))
     && not (eqb (total (writtenAnyway none room .bytes)) (total (writeRule none room .bytes))))
     ≡ true
-unfolding summed readRule writeRule blockBytes bodyBytes entriesBytes entryBytes bytesOf sumBytes total running
-    sumsRight numberOf blockOf listed entryOf blockLegal allBelow entryMay entryLegal kindOf packetLegal restBlank entryBlank
+unfolding summed readRule writeRule blockBytes bodyBytes joined entryBytes bytesOf sumBytes total running sumsRight
+    numberOf blockOf listed entryOf blockLegal allBelow entryMay entryLegal kindOf packetLegal restBlank entryBlank
 slips-differ = refl

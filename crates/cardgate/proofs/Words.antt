@@ -7,7 +7,8 @@ use native.Mathlib.Omega.{arith}
 use lib.ListN.{length, getD, set, replicate}
 use lib.Seq.{take-all}
 use borrow.Rule.Slice.PartMut.{putMid}
-use Rattle.below.specs.Copied.{Copied, copied-none, copied-more, copied-part, copied-all, copied-length}
+use Rattle.below.specs.Copied.{copied-none, copied-more, copied-part, copied-all}
+use Rattle.below.specs.Joined.{Joining, joining-none, joining-more, joining-all}
 use Rattle.below.specs.Listed.{listed}
 use Rattle.below.specs.Made.{Made, made-none, made-more}
 use Rattle.fields.specs.Bytes.{part}
@@ -15,7 +16,7 @@ use Rattle.entries.specs.Entry.{noEntry}
 use Rattle.entries.specs.declared.Entry.{Entry}
 use Rattle.card.specs.declared.Block.{Block}
 use Rattle.cardgate.specs.Content.{entryWords, entriesWords, contentWords, entryIn, placeIn, contentIn}
-use Rattle.cardgate.specs.Contents.{entries-long, entries-at, content-long}
+use Rattle.cardgate.specs.Contents.{entries-long, content-long}
 use Rattle.cardgate.proofs.Tests.{lent-five}
 
 -- ---- read
@@ -66,37 +67,20 @@ entry-written e words h =
     copied-all from words same 5 _ (omega arith) (omega arith) (copied-more from words same 4 _ 0 (omega arith) four)
 
 -- the words of the first k entries have been written
-pub record Filled (entries : List Entry) (words0 words : List ℕ) (k : ℕ) : Type 0 where
-  pub within : k ≤ 31
-  pub size : length words ≡ 155
-  pub filled : Copied (entriesWords entries) words0 (5 * k) words
+abbrev pub Filling : List Entry → List ℕ → List ℕ → ℕ → Type 0
+Filling entries words0 words k = Joining entryWords 5 31 155 entries words0 words k
 
 module _ (entries : List Entry) (all : length entries ≡ 31) (words0 : List ℕ) (long : length words0 ≡ 155) where
-  size : length (entriesWords entries) ≡ 155
-  size = entries-long entries ∙ ap (λ n. 5 * n) all
+  pub filling-none : Filling entries words0 words0 0
+  filling-none = joining-none entryWords 5 (λ e. refl) refl entries all words0 long
 
-  abbrev same : length (entriesWords entries) ≡ length words0
-  same = size ∙ sym long
-
-  pub filled-none : Filled entries words0 words0 0
-  filled-none =
-      record { within = omega arith; size = long; filled = copied-none (entriesWords entries) words0 same }
-
-  pub filled-more : {words p : List ℕ} {k : ℕ} → Filled entries words0 words k → k < 31
+  pub filling-more : {words p : List ℕ} {k : ℕ} → Filling entries words0 words k → k < 31
       → p ≡ entryWords (getD entries k noEntry)
-      → Filled entries words0 (putMid (5 * k) (5 * k + 5 - 5 * k) words p) (k + 1)
-  filled-more {words} {p} {k} f h e =
-      let n : 5 * k + 5 ≡ 5 * (k + 1) = omega arith in
-      let w : 5 * k + 5 - 5 * k ≡ 5 = omega arith in
-      let c = copied-part (entriesWords entries) words0 same (5 * k) 5 words p (omega (arith, size))
-      (e ∙ sym (entries-at entries k (omega arith))) (f .filled) in
-      let l = copied-length (entriesWords entries) words0 same (5 * k + 5) _ (omega (arith, size)) c in
-      rw w (record { within = omega arith; size = l ∙ long; filled = rw n at c })
+      → Filling entries words0 (putMid (5 * k) (5 * k + 5 - 5 * k) words p) (k + 1)
+  filling-more = joining-more entryWords 5 (λ e. refl) refl entries all words0 long noEntry
 
-  pub filled-all : {words : List ℕ} {k : ℕ} → Filled entries words0 words k → 31 ≤ k → words ≡ entriesWords entries
-  filled-all {words} {k} f h =
-      copied-all (entriesWords entries) words0 same (5 * k) words (omega (arith, size))
-      (omega (arith, size, f .within)) (f .filled)
+  pub filling-all : {words : List ℕ} {k : ℕ} → Filling entries words0 words k → 31 ≤ k → words ≡ entriesWords entries
+  filling-all = joining-all entryWords 5 (λ e. refl) refl entries all words0 long
 
 -- all 157 words, as they are left
 pub content-written : (b : Block) (all : length (b .entries) ≡ 31) (words : List ℕ) {rest : List ℕ}

@@ -3,12 +3,13 @@
 -- from word 2 + 5 k on, those of an unused entry zeros.
 -- Assumes nothing.
 use mathlib.Core.Bool.{Bool, _&&_}
-use mathlib.Core.List.{List, [], _∷_, _++_}
+use mathlib.Core.List.{List, [], _∷_}
 use Prim.Native.Nat.{ℕ, _+_, _*_, _^_}
 use lib.Dec.{ltb}
 use lib.ListN.{getD}
 use Rattle.below.specs.Below.{allBelow}
 use Rattle.below.specs.Listed.{listed}
+use Rattle.below.specs.Joined.{joined}
 use Rattle.fields.specs.Bytes.{part}
 use Rattle.entries.specs.declared.Entry.{Entry}
 use Rattle.card.specs.declared.Block.{Block}
@@ -19,9 +20,8 @@ use Rattle.card.specs.declared.Block.{Block}
 abbrev pub entryWords : Entry → List ℕ
 entryWords e = e .kind ∷ e .flow ∷ e .length ∷ e .handle ∷ e .clock ∷ []
 
-unfoldable pub entriesWords : List Entry → List ℕ
-entriesWords [] = []
-entriesWords (e ∷ entries) = entryWords e ++ entriesWords entries
+abbrev pub entriesWords : List Entry → List ℕ
+entriesWords = joined entryWords
 
 unfoldable pub contentWords : Block → List ℕ
 contentWords b = b .number ∷ b .count ∷ entriesWords (b .entries)

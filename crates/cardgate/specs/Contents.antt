@@ -1,20 +1,20 @@
 -- Words and content undo each other: 31 entries are told by their words, and any 157 words are those of the content
 -- that they tell. The words of a content whose fields fit their bytes fit.
 -- Assumes nothing.
-use mathlib.Core.Path.{_≡_, refl, sym, ap, ap₂, _∙_}
+use mathlib.Core.Path.{_≡_, refl, sym, ap, _∙_}
 use mathlib.Core.Bool.{true}
-use mathlib.Core.List.{List, [], _∷_, _++_}
-use Prim.Native.Nat.{ℕ, zero, suc, _+_, _*_, _≤_, _<_}
-use native.Mathlib.Nat.{not-suc-le-zero, le-of-suc-le-suc}
+use mathlib.Core.List.{List, [], _∷_}
+use Prim.Native.Nat.{ℕ, _+_, _*_, _≤_, _<_}
 use native.Mathlib.Omega.{arith}
 use lib.ListN.{length, getD, take, drop, length-drop}
-use lib.Seq.{ext-getD, take-all, drop-append-add, drop-cons, drop-drop, drop-length}
+use lib.Seq.{ext-getD, take-all, drop-cons, drop-drop, drop-length}
 use borrow.Author.Tests.{lt-ltb}
 use Rattle.below.specs.Below.{allBelow-of}
 use Rattle.below.specs.Listed.{listed, listed-here, length-listed}
+use Rattle.below.specs.Joined.{joined-long, joined-at, joined-again}
 use Rattle.below.specs.Truth.{both-of}
 use Rattle.fields.specs.Bytes.{part}
-use Rattle.fields.specs.Laws.{part-length, part-join}
+use Rattle.fields.specs.Laws.{part-length}
 use Rattle.entries.specs.Entry.{noEntry, EntryFits}
 use Rattle.entries.specs.declared.Entry.{Entry}
 use Rattle.card.specs.Block.{BlockFits}
@@ -23,21 +23,7 @@ use Rattle.cardgate.specs.Content.{entryWords, entriesWords, contentWord
 use Rattle.cardgate.specs.Content.{entryIn, placeWords, placeIn, contentIn, entryFit, placeFit, contentFit}
 
 pub entries-long : (entries : List Entry) → length (entriesWords entries) ≡ 5 * length entries
-unfolding entriesWords
-entries-long [] = refl
-entries-long (e ∷ entries) = omega (arith, entries-long entries)
-
--- five words from 5 k on are entry k's
-pub entries-at : (entries : List Entry) (k : ℕ) → k < length entries
-    → part (entriesWords entries) (5 * k) 5 ≡ entryWords (getD entries k noEntry)
-unfolding entriesWords
-entries-at [] k h = absurd (not-suc-le-zero h)
-entries-at (e ∷ entries) zero h = refl
-entries-at (e ∷ entries) (suc k) h =
-    let n : 5 * suc k ≡ 5 + 5 * k = omega arith in
-    ap (λ at. take 5 (drop at (entryWords e ++ entriesWords entries))) n
-    ∙ ap (take 5) (drop-append-add (entryWords e) (entriesWords entries) (5 * k))
-    ∙ entries-at entries k (le-of-suc-le-suc h)
+entries-long = joined-long entryWords 5 (λ e. refl)
 
 module _ (b : Block) (all : length (b .entries) ≡ 31) where
   pub content-long : length (contentWords b) ≡ 157
@@ -48,7 +34,8 @@ module _ (b : Block) (all : length (b .entries) ≡ 31) where
   pub content-place : (k : ℕ) → k < 31 → placeWords (contentWords b) k ≡ entryWords (getD (b .entries) k noEntry)
   unfolding contentWords
   content-place k h =
-      ap (take 5) (sym (drop-drop (5 * k) 2 (contentWords b))) ∙ entries-at (b .entries) k (omega (arith, all))
+      ap (take 5) (sym (drop-drop (5 * k) 2 (contentWords b)))
+      ∙ joined-at entryWords 5 (λ e. refl) (b .entries) k noEntry (omega (arith, all))
 
   -- the content that its words tell
   pub content-told : contentIn (contentWords b) ≡ b
@@ -74,24 +61,16 @@ five-again words h =
     ∙ sym (drop-cons words 0 0 (omega arith))
 
 module _ (words : List ℕ) where
-  -- so many entries, from place i on
-  entries-again : (i n : ℕ) → 2 + 5 * i + 5 * n ≤ length words
-      → entriesWords (listed (placeIn words) i n) ≡ part words (2 + 5 * i) (5 * n)
-  unfolding entriesWords listed
-  entries-again i zero h = refl
-  entries-again i (suc n) h =
-      let next : 2 + 5 * suc i ≡ 2 + 5 * i + 5 = omega arith in
-      let more : 5 * suc n ≡ 5 + 5 * n = omega arith in
-      ap₂ _++_ (five-again (placeWords words i) (part-length words (2 + 5 * i) 5 (omega arith)))
-      (entries-again (suc i) n (omega arith) ∙ ap (λ at. part words at (5 * n)) next)
-      ∙ part-join words (2 + 5 * i) 5 (5 * n) ∙ ap (part words (2 + 5 * i)) (sym more)
+  entries-again : 157 ≤ length words → entriesWords (listed (placeIn words) 0 31) ≡ part words 2 155
+  entries-again h = joined-again entryWords 5 (λ e. refl) (placeIn words) words 2 (λ k l.
+      five-again (placeWords words k) (part-length words (2 + 5 * k) 5 l)) 0 31 h
 
   -- any 157 words are those of the content that they tell
   pub content-again : length words ≡ 157 → contentWords (contentIn words) ≡ words
   unfolding contentIn contentWords
   content-again h =
       ap (λ rest. getD words 0 0 ∷ getD words 1 0 ∷ rest)
-      (entries-again 0 31 (omega arith) ∙ take-all 155 (drop 2 words) (simp length-drop (omega arith)))
+      (entries-again (omega arith) ∙ take-all 155 (drop 2 words) (simp length-drop (omega arith)))
       ∙ ap (λ rest. getD words 0 0 ∷ rest) (sym (drop-cons words 1 0 (omega arith)))
       ∙ sym (drop-cons words 0 0 (omega arith))
 

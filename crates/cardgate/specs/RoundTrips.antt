@@ -3,9 +3,8 @@
 -- Assumes nothing.
 use mathlib.Core.Path.{_≡_, refl, sym, ap, _∙_}
 use mathlib.Core.Bool.{Bool, true, false, cond}
-use mathlib.Core.List.{List, [], _∷_}
-use Prim.Native.Nat.{ℕ, suc, _+_, _*_, _^_, _≤_, _<_}
-use native.Mathlib.Nat.{pow-succ'}
+use mathlib.Core.List.{List}
+use Prim.Native.Nat.{ℕ, _+_, _*_, _^_, _<_}
 use native.Mathlib.Omega.{arith}
 use lib.Dec.{eqb}
 use lib.ListN.{length, getD, drop}
@@ -13,12 +12,11 @@ use lib.Seq.{getD-take, getD-drop}
 use borrow.Author.Tests.{eq-eqb, eqb-true}
 use Rattle.below.specs.Below.{allBelow-at}
 use Rattle.below.specs.Listed.{listed, listed-here, length-listed}
-use Rattle.fields.specs.Bytes.{numberOf, part, Small}
-use Rattle.fields.specs.Laws.{part-length, part-small}
-use Rattle.entries.specs.Entry.{entryOf, noEntry, EntryFits}
-use Rattle.card.specs.Block.{blockBytes, blockLegal, entryAt, blockOf, BlockFits}
+use Rattle.fields.specs.Bytes.{Small}
+use Rattle.entries.specs.Entry.{noEntry, EntryFits}
+use Rattle.card.specs.Block.{blockBytes, blockLegal, blockOf, BlockFits}
 use Rattle.card.specs.Card.{accepted, Written, written, writeRule, readRule}
-use Rattle.card.specs.RoundTrips.{read-bytes, written-read, read-accepted}
+use Rattle.card.specs.RoundTrips.{block-small, read-bytes, written-read, read-accepted}
 use Rattle.card.specs.declared.Block.{Block}
 use Rattle.card.specs.declared.Reading.{Reading}
 use Rattle.cardgate.specs.Content.{contentWords, placeWords, entryIn, placeIn, contentIn, placeFit, contentFit}
@@ -52,43 +50,6 @@ module _ (words : List ℕ) (small : (k : ℕ) → getD words k 0 < 2 ^ 64) (fit
             sym (listed-here (placeIn words) 31 k noEntry h) in
             rw e at (place-fits k h);
       }
-
--- a number of bytes is below what they can hold
-number-below : (bytes : List ℕ) → Small bytes → numberOf bytes < 256 ^ length bytes
-unfolding numberOf
-number-below [] s = omega arith
-number-below (byte ∷ bytes) s =
-    let h : byte < 256 = s 0 in
-    rw pow-succ' (omega (arith, number-below bytes (λ i. s (suc i))))
-
-part-below : (bytes : List ℕ) (at n : ℕ) → Small bytes → at + n ≤ length bytes → numberOf (part bytes at n) < 256 ^ n
-part-below bytes at n s h =
-    rw (part-length bytes at n h) at (number-below (part bytes at n) (part-small bytes at n s))
-
--- an entry of sixteen bytes, and what 512 bytes say
-entry-small : (bytes : List ℕ) → length bytes ≡ 16 → Small bytes → EntryFits (entryOf bytes)
-unfolding entryOf
-entry-small bytes h s =
-    record {
-      kind = s 0;
-      flow = s 1;
-      length = part-below bytes 2 2 s (omega arith);
-      handle = part-below bytes 4 4 s (omega arith);
-      clock = part-below bytes 8 8 s (omega arith);
-    }
-
-block-small : (bytes : List ℕ) → length bytes ≡ 512 → Small bytes → BlockFits (blockOf bytes)
-unfolding blockOf
-block-small bytes h s =
-    record {
-      number = part-below bytes 0 4 s (omega arith);
-      count = s 4;
-      all = length-listed (entryAt bytes) 0 31;
-      each = λ k l. let e : entryAt bytes k ≡ getD (listed (entryAt bytes) 0 31) k noEntry =
-          sym (listed-here (entryAt bytes) 31 k noEntry l) in
-          rw e at (entry-small (part bytes (12 + 16 * k) 16) (part-length bytes (12 + 16 * k) 16 (omega arith))
-          (part-small bytes (12 + 16 * k) 16 s));
-    }
 
 -- ---- reading what was written
 

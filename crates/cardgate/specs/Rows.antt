@@ -9,14 +9,15 @@ use lib.Dec.{eqb}
 use lib.ListN.{getD, set, take, replicate}
 use Rattle.below.specs.Below.{allBelow}
 use Rattle.below.specs.Listed.{listed}
+use Rattle.below.specs.Joined.{joined}
 use Rattle.fields.specs.Bytes.{bytesOf, numberOf}
 use Rattle.sums.specs.Sums.{total, running, sumsRight}
 use Rattle.entries.specs.Entry.{entryBytes, entryOf}
 use Rattle.entries.specs.Legal.{kindOf, packetLegal, restBlank, entryLegal, entryBlank}
-use Rattle.card.specs.Block.{entriesBytes, bodyBytes, sumBytes, blockBytes, blockOf, entryMay, blockLegal}
+use Rattle.card.specs.Block.{bodyBytes, sumBytes, blockBytes, blockOf, entryMay, blockLegal}
 use Rattle.card.specs.Card.{Written, written, writeRule, readRule}
 use Rattle.card.specs.Rows.{worked, all}
-use Rattle.cardgate.specs.Content.{entriesWords, contentWords, entryIn, contentIn, entryFit, contentFit}
+use Rattle.cardgate.specs.Content.{contentWords, entryIn, contentIn, entryFit, contentFit}
 use Rattle.cardgate.specs.Calls.{cardWrite, Told, told, cardRead}
 
 -- the words and the bytes of the worked block, five entries, and what may stand in what is lent for the answer
@@ -84,8 +85,8 @@ abbrev writtenAnyway : List ℕ → List ℕ → Told
 writtenAnyway bytes content = told (cardRead bytes content .answer) (contentWords (readRule bytes .block))
 
 pub rows-hold : all rows ≡ true
-unfolding all rows cardWrite cardRead contentWords entriesWords contentIn entryIn contentFit entryFit readRule writeRule
-    blockBytes bodyBytes entriesBytes entryBytes bytesOf sumBytes total running sumsRight numberOf blockOf listed
+unfolding all rows cardWrite cardRead contentWords joined contentIn entryIn contentFit entryFit readRule writeRule
+    blockBytes bodyBytes entryBytes bytesOf sumBytes total running sumsRight numberOf blockOf listed
     entryOf blockLegal allBelow entryMay entryLegal kindOf packetLegal restBlank entryBlank
 rows-hold = refl
 
@@ -95,7 +96,7 @@ pub slips-differ :
     && not (eqb (wordsFirst (set words 0 (2 ^ 32)) [] .answer) (cardWrite (set words 0 (2 ^ 32)) [] .answer))
     && not (eqb (total (writtenAnyway [] others .content)) (total (cardRead [] others .content))))
     ≡ true
-unfolding cardWrite cardRead contentWords entriesWords contentIn entryIn contentFit entryFit readRule writeRule
-    blockBytes bodyBytes entriesBytes entryBytes bytesOf sumBytes total running sumsRight numberOf blockOf listed
+unfolding cardWrite cardRead contentWords joined contentIn entryIn contentFit entryFit readRule writeRule
+    blockBytes bodyBytes entryBytes bytesOf sumBytes total running sumsRight numberOf blockOf listed
     entryOf blockLegal allBelow entryMay entryLegal kindOf packetLegal restBlank entryBlank
 slips-differ = refl

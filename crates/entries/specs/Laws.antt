@@ -7,7 +7,7 @@ use native.Mathlib.Omega.{arith}
 use lib.ListN.{length, getD, drop, length-drop}
 use lib.Seq.{drop-cons, take-all}
 use Rattle.fields.specs.Bytes.{bytesOf, part, Small}
-use Rattle.fields.specs.Laws.{number-bytes, part-again, part-join}
+use Rattle.fields.specs.Laws.{number-bytes, part-below, part-again, part-join}
 use Rattle.entries.specs.declared.Entry.{Entry}
 use Rattle.entries.specs.Entry.{entryBytes, entryOf, EntryFits}
 
@@ -45,3 +45,15 @@ module _ (bytes : List ℕ) (h : length bytes ≡ 16) where
       ap (λ t. getD bytes 0 0 ∷ getD bytes 1 0 ∷ t)
       (ap₂ _++_ (part-again bytes 2 2 s (omega arith))
       (ap₂ _++_ (part-again bytes 4 4 s (omega arith)) (part-again bytes 8 8 s (omega arith)))) ∙ parts
+
+-- what sixteen bytes say fits its fields
+pub entry-small : (bytes : List ℕ) → length bytes ≡ 16 → Small bytes → EntryFits (entryOf bytes)
+unfolding entryOf
+entry-small bytes h s =
+    record {
+      kind = s 0;
+      flow = s 1;
+      length = part-below bytes 2 2 s (omega arith);
+      handle = part-below bytes 4 4 s (omega arith);
+      clock = part-below bytes 8 8 s (omega arith);
+    }

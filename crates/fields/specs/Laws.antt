@@ -49,6 +49,19 @@ part-length bytes at n h = simp (length-take, length-drop) (omega arith)
 pub part-small : (bytes : List ℕ) (at n : ℕ) → Small bytes → Small (part bytes at n)
 part-small bytes at n s = small-take n (drop at bytes) (small-drop at bytes s)
 
+-- a number of bytes is below what they can hold
+pub number-below : (bytes : List ℕ) → Small bytes → numberOf bytes < 256 ^ length bytes
+unfolding numberOf
+number-below [] s = omega arith
+number-below (byte ∷ bytes) s =
+    let h : byte < 256 = s 0 in
+    rw pow-succ' (omega (arith, number-below bytes (λ i. s (suc i))))
+
+pub part-below : (bytes : List ℕ) (at n : ℕ) → Small bytes → at + n ≤ length bytes
+    → numberOf (part bytes at n) < 256 ^ n
+part-below bytes at n s h =
+    rw (part-length bytes at n h) at (number-below (part bytes at n) (part-small bytes at n s))
+
 -- two parts side by side
 pub part-join : (bytes : List ℕ) (at n m : ℕ) → part bytes at n ++ part bytes (at + n) m ≡ part bytes at (n + m)
 part-join bytes at n m =

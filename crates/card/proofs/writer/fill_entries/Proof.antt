@@ -2,7 +2,7 @@
 -- written. The measure is what is left of the 31.
 -- Assumes nothing.
 use Prim.Native.Nat.{_-_}
-use Rattle.card.proofs.Blocks.{Filled, filled-none, filled-more, filled-all}
+use Rattle.card.proofs.Blocks.{Filling, filling-none, filling-more, filling-all}
 use borrow.Author.Needs.{needs}
 use Rattle.card.proofs.writer.fill_entries.Statement.{statement}
 use Rattle.card.proofs.writer.fill_entries.Tie as tie
@@ -11,13 +11,13 @@ use Rattle.card.proofs.writer.fill_entries.Lts as lts
 use Rattle.entries.proofs.write_entry.Reads as write-entry-reads
 
 abbrev Inv-loop : tie.InvT-loop
-Inv-loop bytes₀ entries place₀ bytes place = Filled entries bytes₀ bytes place
+Inv-loop bytes₀ entries place₀ bytes place = Filling entries bytes₀ bytes place
 
 abbrev μ-loop : tie.MeasureT-loop
 μ-loop bytes₀ entries place₀ bytes place = 31 - place
 
 loop-holds : tie.Need-loop-holds Inv-loop μ-loop
-loop-holds c = search (needs, filled-none)
+loop-holds c = search (needs, filling-none)
 
 mul-at : tie.Need-mul-at Inv-loop μ-loop
 mul-at c = search needs
@@ -50,13 +50,13 @@ loop-less : tie.Need-loop-less Inv-loop μ-loop
 loop-less c = search needs
 
 loop-again : tie.Need-loop-again Inv-loop μ-loop
-loop-again c = search (needs, filled-more)
+loop-again c = search (needs, filling-more)
 
 same-length : tie.Need-same-length Inv-loop μ-loop
 same-length c = search needs
 
 returns : tie.Need-returns Inv-loop μ-loop
-returns c = search (needs, filled-all)
+returns c = search (needs, filling-all)
 
 pub fill-entries-spec : {M : Type 1} → statement M
 fill-entries-spec =

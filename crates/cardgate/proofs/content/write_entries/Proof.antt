@@ -2,19 +2,19 @@
 -- place have been written. The measure is what is left of the 31.
 -- Assumes nothing.
 use Prim.Native.Nat.{_-_}
-use Rattle.cardgate.proofs.Words.{Filled, filled-none, filled-more, filled-all}
+use Rattle.cardgate.proofs.Words.{Filling, filling-none, filling-more, filling-all}
 use borrow.Author.Needs.{needs}
 use Rattle.cardgate.proofs.content.write_entries.Statement.{statement}
 use Rattle.cardgate.proofs.content.write_entries.Tie as tie
 
 abbrev Inv-loop : tie.InvT-loop
-Inv-loop words₀ entries place₀ words place = Filled entries words₀ words place
+Inv-loop words₀ entries place₀ words place = Filling entries words₀ words place
 
 abbrev μ-loop : tie.MeasureT-loop
 μ-loop words₀ entries place₀ words place = 31 - place
 
 loop-holds : tie.Need-loop-holds Inv-loop μ-loop
-loop-holds c = search (needs, filled-none)
+loop-holds c = search (needs, filling-none)
 
 mul-at : tie.Need-mul-at Inv-loop μ-loop
 mul-at c = search needs
@@ -50,13 +50,13 @@ loop-less : tie.Need-loop-less Inv-loop μ-loop
 loop-less c = search needs
 
 loop-again : tie.Need-loop-again Inv-loop μ-loop
-loop-again c = search (needs, filled-more)
+loop-again c = search (needs, filling-more)
 
 same-length : tie.Need-same-length Inv-loop μ-loop
 same-length c = search needs
 
 returns : tie.Need-returns Inv-loop μ-loop
-returns c = search (needs, filled-all)
+returns c = search (needs, filling-all)
 
 pub write-entries-spec : {M : Type 1} → statement M
 write-entries-spec =
