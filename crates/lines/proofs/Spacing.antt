@@ -1,23 +1,20 @@
--- A field put behind a space, and a line's fields put one behind the other.
+-- A number put as its digits, fields put one behind the other, each behind a space, and a line of them.
 -- Assumes nothing.
-use mathlib.Core.Path.{_≡_, refl, sym, _∙_}
+use mathlib.Core.Path.{_≡_, refl, sym, ap, _∙_}
 use mathlib.Core.List.{List, [], _∷_, _++_, append-assoc, append-nil}
 use Prim.Native.Nat.{ℕ, _+_, _-_, _*_, _≤_, _<_}
 use native.Mathlib.Numerals.{add-one}
 use native.Mathlib.Omega.{arith}
 use lib.ListN.{length, getD, set, take, drop, length-set, length-drop}
-use lib.Seq.{take-all, take-suc, take-suc-set, drop-set-lt, take-length}
+use lib.Seq.{take-all, take-suc, take-suc-set, take-length}
 use Rattle.lines.specs.Text.{space, lineFeed, Put}
+use Rattle.lines.specs.Puts.{put-none, put-byte, put-then}
 use Rattle.lines.specs.Number.{decimal}
 use Rattle.lines.specs.Output.{fieldText, fieldTexts, lineText, Written, Spelt}
 
 -- the digits of a text of 20 from a place on, as a part of the array has them
 abbrev pub digitsIn : List ℕ → ℕ → List ℕ
 digitsIn text from = take (20 - from) (drop from text)
-
--- a store keeps the length
-pub kept-set : (after out : List ℕ) (at byte : ℕ) → length after ≡ length (set out at byte) → length after ≡ length out
-kept-set after out at byte e = e ∙ length-set out at byte
 
 module _ (text : List ℕ) (from number : ℕ) (s : Spelt text from number) where
   digits-length : length (drop from text) ≡ 20 - from
@@ -29,25 +26,15 @@ module _ (text : List ℕ) (from number : ℕ) (s : Spelt text from number) wher
   digits-few : length (decimal number) ≤ 20
   digits-few = rw (← s .digits) (rw digits-length (omega arith))
 
-  pub field-room : (out : List ℕ) (at : ℕ) → at + 21 ≤ length out
-      → at + 1 + length (digitsIn text from) ≤ length (set out at space)
-  field-room out at h = rw (spelt-digits, length-set) (omega (arith, digits-few))
+  pub number-room : (out : List ℕ) (at : ℕ) → at + 20 ≤ length out → at + length (digitsIn text from) ≤ length out
+  number-room out at h = rw spelt-digits (omega (arith, digits-few))
 
-  pub field-put : (out after : List ℕ) (at end : ℕ) → at + 21 ≤ length out
-      → Put (set out at space) (at + 1) (digitsIn text from) after end
-      → Put out at (fieldText number) after end
-  field-put out after at end h p = let q = rw spelt-digits at (p .behind) in
-      let k = rw (spelt-digits, add-one, take-suc-set out at space (omega arith), append-assoc) at (p .holds) in
-      record {
-        behind = omega (arith, q);
-        holds = k;
-        beyond = p .beyond ∙ drop-set-lt end out at space (omega (arith, q));
-        same = p .same ∙ length-set out at space;
-      }
+  module _ (out after : List ℕ) (at end : ℕ) (p : Put out at (digitsIn text from) after end) where
+    pub number-put : Put out at (decimal number) after end
+    number-put = rw spelt-digits at p
 
-  pub field-end : (out after : List ℕ) (at end : ℕ) → Put (set out at space) (at + 1) (digitsIn text from) after end
-      → end ≤ at + 21
-  field-end out after at end p = let q = rw spelt-digits at (p .behind) in omega (arith, q, digits-few)
+    pub number-end : end ≤ at + 20
+    number-end = omega (arith, number-put .behind, digits-few)
 
 -- the fields of two lists, one behind the other
 texts-more : (one other : List ℕ) → fieldTexts (one ++ other) ≡ fieldTexts one ++ fieldTexts other
@@ -60,58 +47,68 @@ text-one : (n : ℕ) → fieldTexts (n ∷ []) ≡ fieldText n
 unfolding fieldTexts
 text-one n = append-nil (fieldText n)
 
--- the letter and the first i fields have been put, and there is room for the others
-pub record Lined (out : List ℕ) (letter : ℕ) (fields : List ℕ) (at i : ℕ) (after : List ℕ) : Type 0 where
+-- the first i fields have been put, and there is room for the others
+pub record Fielded (out : List ℕ) (at : ℕ) (fields : List ℕ) (end i : ℕ) (after : List ℕ) : Type 0 where
   pub reached : i ≤ length fields
-  pub same : length after ≡ length out
-  pub roomy : 2 + 21 * length fields ≤ length after
-  pub seven : length fields ≤ 7
-  pub few : at ≤ 1 + 21 * i
-  pub holds : take at after ≡ letter ∷ fieldTexts (take i fields)
+  pub room : at + 21 * length fields ≤ length out
+  pub few : end ≤ at + 21 * i
+  pub put : Put out at (fieldTexts (take i fields)) after end
 
-module _ (letter : ℕ) (fields : List ℕ) where
-  pub lined-none : (out : List ℕ) → (2 + 21 * length fields ≤ length out) × (length fields ≤ 7)
-      → Lined (set out 0 letter) letter fields 1 0 (set out 0 letter)
+module _ (out : List ℕ) (at : ℕ) (fields : List ℕ) where
+  pub fielded-none : at + 21 * length fields ≤ length out → Fielded out at fields at 0 out
   unfolding fieldTexts
-  lined-none out (h, k) =
+  fielded-none h = record { reached = omega arith; room = h; few = omega arith; put = put-none out at }
+
+  module _ (end i : ℕ) (after : List ℕ) (f : Fielded out at fields end i after) where
+    pub fielded-kept : length after ≡ length out
+    fielded-kept = f .put .same
+
+    pub fielded-room : i < length fields → end + 21 ≤ length after
+    fielded-room h = omega (arith, f .room, f .few, f .put .same)
+
+    pub fielded-behind : (byte : ℕ) → i < length fields → end + 1 + 20 ≤ length (set after end byte)
+    fielded-behind byte h = rw length-set (omega (arith, fielded-room h))
+
+    pub fielded-more : (next : List ℕ) (last : ℕ) → i < length fields
+        → Put (set after end space) (end + 1) (decimal (getD fields i 0)) next last × (last ≤ end + 1 + 20)
+        → Fielded out at fields last (i + 1) next
+    fielded-more next last h (p, l) =
+        let r : end + 21 ≤ length after = fielded-room h in
+        let e : fieldTexts (take (i + 1) fields) ≡ fieldTexts (take i fields) ++ fieldText (getD fields i 0) =
+        rw (add-one, take-suc fields i 0 h, texts-more, text-one) in
+        record {
+          reached = omega arith;
+          room = f .room;
+          few = omega (arith, f .few);
+          put = rw e (put-then (f .put) (put-then (put-byte after end space (omega arith)) p));
+        }
+
+    pub fielded-all : length fields ≤ i → Put out at (fieldTexts fields) after end
+    fielded-all h = let e : i ≡ length fields = omega (arith, f .reached) in rw (e, take-length) at (f .put)
+
+    pub fielded-few : end ≤ at + 21 * length fields
+    fielded-few = omega (arith, f .few, f .reached)
+
+-- a letter put first leaves the room for the fields
+pub lined-room : (out fields : List ℕ) (letter : ℕ) → 2 + 21 * length fields ≤ length out
+    → 1 + 21 * length fields ≤ length (set out 0 letter)
+lined-room out fields letter h = rw length-set (omega arith)
+
+module _ (out after : List ℕ) (letter : ℕ) (fields : List ℕ) (at : ℕ)
+    (room : 2 + 21 * length fields ≤ length out) (p : Put (set out 0 letter) 1 (fieldTexts fields) after at)
+    (few : at ≤ 1 + 21 * length fields) where
+  pub lined-kept : (byte : ℕ) → length (set after at byte) ≡ length out
+  lined-kept byte = length-set after at byte ∙ p .same ∙ length-set out 0 letter
+
+  pub lined-end : at < length after
+  lined-end = omega (arith, p .same, length-set out 0 letter)
+
+  pub lined-all : length fields ≤ 7 → Written (set after at lineFeed) (at + 1) (lineText letter fields)
+  lined-all h =
       record {
-        reached = omega arith;
-        same = refl;
-        roomy = rw length-set h;
-        seven = k;
-        few = omega arith;
-        holds = take-suc-set out 0 letter (omega arith);
-      }
-
-  pub lined-room : (out after : List ℕ) (at i : ℕ) → Lined out letter fields at i after → i < length fields
-      → at + 21 ≤ length after
-  lined-room out after at i l h = omega (arith, l .roomy, l .few)
-
-  pub lined-more : (out after next : List ℕ) (at end i : ℕ) → Lined out letter fields at i after → i < length fields
-      → Put after at (fieldText (getD fields i 0)) next end × (end ≤ at + 21)
-      → Lined out letter fields end (i + 1) next
-  lined-more out after next at end i l h (p, f) =
-      record {
-        reached = omega arith;
-        same = p .same ∙ l .same;
-        roomy = rw (p .same) (l .roomy);
-        seven = l .seven;
-        few = omega (arith, l .few);
-        holds = p .holds ∙ rw (l .holds, add-one, take-suc fields i 0 h, texts-more, text-one);
-      }
-
-  pub lined-kept : (out after : List ℕ) (at i byte : ℕ) → Lined (set out 0 letter) letter fields at i after
-      → length (set after at byte) ≡ length out
-  lined-kept out after at i byte l = length-set after at byte ∙ l .same ∙ length-set out 0 letter
-
-  pub lined-end : (out after : List ℕ) (at i : ℕ) → Lined out letter fields at i after → at < length after
-  lined-end out after at i l = omega (arith, l .roomy, l .few, l .reached)
-
-  pub lined-all : (out after : List ℕ) (at i : ℕ) → Lined out letter fields at i after → length fields ≤ i
-      → Written (set after at lineFeed) (at + 1) (lineText letter fields)
-  lined-all out after at i l h = let e : i ≡ length fields = omega (arith, l .reached) in
-      record {
-        within = rw length-set (omega (arith, lined-end out after at i l));
-        short = omega (arith, l .few, l .seven);
-        holds = rw (add-one, take-suc-set after at lineFeed (lined-end out after at i l), l .holds, e, take-length);
+        within = rw length-set (omega (arith, lined-end));
+        short = omega arith;
+        holds = rw (add-one, take-suc-set after at lineFeed lined-end, p .holds)
+            (ap (λ (front : List ℕ). front ++ fieldTexts fields ++ lineFeed ∷ [])
+            (take-suc-set out 0 letter (omega arith)));
       }

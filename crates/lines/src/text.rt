@@ -26,7 +26,7 @@ pub fn line_end(input: &[u8], from: usize) -> usize
 }
 
 // Puts a text into a buffer from `at` on, and gives the place behind it.
-pub(crate) fn append(out: &mut [u8], at: usize, text: &[u8]) -> usize
+pub fn append(out: &mut [u8], at: usize, text: &[u8]) -> usize
     requires { ⌜ at + length (now text) ≤ length (now out) ⌝ }
     ensures { λ r. ⌜ Put (now (out .entry)) at (now (text .entry)) (now (out .exit)) r ⌝ }
 {

@@ -6,7 +6,8 @@ ghost use lib.ListN.{length};
 ghost use Rattle.reply.specs.Reply.{idle, openingReply, arrivalReply};
 ghost use Rattle.uplink.specs.PickReply.{pickReply};
 ghost use Rattle.lines.specs.Text.{Put};
-ghost use Rattle.lines.specs.Output.{fieldText, lineText};
+ghost use Rattle.lines.specs.Number.{decimal};
+ghost use Rattle.lines.specs.Output.{fieldTexts, lineText};
 ghost use Rattle.lines.specs.Output.{badLine, openingLine, arrivalLine, pickLine};
 ghost use Rattle.lines.specs.Output.{Spelt, Written};
 use crate::text::append;
@@ -36,17 +37,31 @@ fn spell(number: u64) -> Decimal
     Decimal { text, from }
 }
 
-// A space and a number.
-fn put_field(out: &mut [u8], at: usize, number: u64) -> usize
-    requires { ⌜ at + 21 ≤ length (now out) ⌝ }
-    ensures { λ r. ⌜ Put (now (out .entry)) at (fieldText number) (now (out .exit)) r × (r ≤ at + 21) ⌝ }
+// A number.
+pub fn put_number(out: &mut [u8], at: usize, number: u64) -> usize
+    requires { ⌜ at + 20 ≤ length (now out) ⌝ }
+    ensures { λ r. ⌜ Put (now (out .entry)) at (decimal number) (now (out .exit)) r × (r ≤ at + 20) ⌝ }
 {
-    out[at] = b' ';
-    let digits = at + 1;
     let spelt = spell(number);
     let text = spelt.text;
     let from = spelt.from;
-    append(out, digits, &text[from..])
+    append(out, at, &text[from..])
+}
+
+// Fields, each a space and a number.
+pub fn put_fields(out: &mut [u8], at: usize, fields: &[u64]) -> usize
+    requires { ⌜ at + 21 * length (now fields) ≤ length (now out) ⌝ }
+    ensures { λ r. ⌜ Put (now (out .entry)) at (fieldTexts (now (fields .entry))) (now (out .exit)) r
+        × (r ≤ at + 21 * length (now (fields .entry))) ⌝ }
+{
+    let mut end = at;
+    let mut i = 0;
+    while i < fields.len() {
+        out[end] = b' ';
+        end = put_number(out, end + 1, fields[i]);
+        i += 1;
+    }
+    end
 }
 
 // A letter, its fields and a line feed.
@@ -55,12 +70,7 @@ fn put_line(out: &mut [u8], letter: u8, fields: &[u64]) -> usize
     ensures { λ r. ⌜ Written (now (out .exit)) r (lineText letter (now (fields .entry))) ⌝ }
 {
     out[0] = letter;
-    let mut at = 1;
-    let mut i = 0;
-    while i < fields.len() {
-        at = put_field(out, at, fields[i]);
-        i += 1;
-    }
+    let at = put_fields(out, 1, fields);
     out[at] = b'\n';
     at + 1
 }

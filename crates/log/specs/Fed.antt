@@ -1,5 +1,5 @@
--- The log built entry by entry is the log. After any entries the blocks passed on are the whole ones of their log, and
--- the block under way holds the entries behind these.
+-- The log built entry by entry is the log. After any entries the blocks passed on are all of their log but the last, and
+-- the block under way is the last one.
 -- Assumes nothing.
 use mathlib.Core.Path.{_≡_, refl, sym, ap, ap₂, _∙_}
 use mathlib.Core.List.{List, [], _∷_, _++_, append-nil}
@@ -7,13 +7,13 @@ use Prim.Native.Nat.{ℕ, zero, suc, _+_, _-_, _*_, _/_, _≤_, _<_}
 use native.Mathlib.Decide.{ℕ-discrete}
 use native.Mathlib.Omega.{arith}
 use lib.ListN.{length, set, take, drop, replicate, length-append, length-drop, drop-of-length-le}
-use lib.Seq.{set-append-seam, take-all, take-append-le, drop-append-le, append-snoc}
+use lib.Seq.{set-append-seam, take-all, take-append-le, drop-append-le, drop-append-seam, append-snoc}
 use borrow.Author.Tests.{lt-leb, eq-eqb, ne-eqb}
 use Rattle.below.specs.Listed.{listed, listed-same}
 use Rattle.entries.specs.Entry.{noEntry}
 use Rattle.entries.specs.declared.Entry.{Entry}
 use Rattle.log.specs.Log.{contentOf, blockAt, logOf}
-use Rattle.log.specs.Feed.{addedRule, Fed, fed, noneFed, onward, fedOne, feed, allPassed}
+use Rattle.log.specs.Feed.{addedRule, Fed, fed, noneFed, fedOne, feed, allPassed}
 
 -- an entry behind the last one of a block that is not full
 pub added-content : (number : ℕ) (entries : List Entry) (e : Entry) → length entries < 31
@@ -41,16 +41,17 @@ listed-more f i (suc n) =
     let k : suc i + n ≡ i + suc n = omega arith in
     ap (λ rest. f i ∷ rest) (listed-more f (suc i) n ∙ ap (λ j. listed f (suc i) n ++ (f j ∷ [])) k)
 
--- what is held after these entries: their whole blocks, and the block under way
-abbrev wholeIn : List Entry → ℕ
-wholeIn entries = length entries / 31
+-- how many blocks come before the last one
+abbrev passedIn : List Entry → ℕ
+passedIn entries = (length entries - 1) / 31
 
+-- what is held after these entries
 abbrev pub fedBy : List Entry → Fed
 fedBy entries =
-    fed (listed (blockAt entries) 0 (wholeIn entries))
-    (contentOf (wholeIn entries) (drop (31 * wholeIn entries) entries))
+    fed (listed (blockAt entries) 0 (passedIn entries))
+    (contentOf (passedIn entries) (drop (31 * passedIn entries) entries))
 
--- the whole blocks, and block q behind them
+-- the blocks before block q, and block q behind them
 passed-more : (entries : List Entry) (q n : ℕ) → q + 1 ≡ n → length (drop (31 * q) entries) ≤ 31
     → listed (blockAt entries) 0 q ++ (contentOf q (drop (31 * q) entries) ∷ []) ≡ listed (blockAt entries) 0 n
 passed-more entries q n e short =
@@ -66,52 +67,55 @@ module _ (entries : List Entry) (e : Entry) where
   more = entries ++ (e ∷ [])
 
   abbrev q : ℕ
-  q = wholeIn entries
+  q = passedIn entries
+
+  abbrev rest : List Entry
+  rest = drop (31 * q) entries
 
   one-more : length more ≡ length entries + 1
   one-more = length-append entries (e ∷ [])
 
-  rest-length : length (drop (31 * q) entries) ≡ length entries - 31 * q
+  rest-length : length rest ≡ length entries - 31 * q
   rest-length = length-drop (31 * q) entries
 
-  tail-length : length (drop (31 * q) more) ≡ length entries + 1 - 31 * q
-  tail-length = length-drop (31 * q) more ∙ ap (λ n. n - 31 * q) one-more
-
-  added : addedRule (contentOf q (drop (31 * q) entries)) e ≡ contentOf q (drop (31 * q) more)
-  added =
-      added-content q (drop (31 * q) entries) e (omega (arith, rest-length))
-      ∙ ap (contentOf q) (sym (drop-append-le (31 * q) entries (e ∷ []) (omega arith)))
-
-  -- a whole block has its 31 entries already
-  same-block : (k : ℕ) → k < q → blockAt entries k ≡ blockAt more k
+  -- a block before the last one has its 31 entries already
+  same-block : (k : ℕ) → 31 * k + 31 ≤ length entries → blockAt entries k ≡ blockAt more k
   same-block k h =
       let long : length (drop (31 * k) entries) ≡ length entries - 31 * k = length-drop (31 * k) entries in
       ap (contentOf k)
       (sym (ap (take 31) (drop-append-le (31 * k) entries (e ∷ []) (omega arith))
       ∙ take-append-le 31 (drop (31 * k) entries) (e ∷ []) (omega arith)))
 
-  same-passed : listed (blockAt entries) 0 q ≡ listed (blockAt more) 0 q
-  same-passed = listed-same (blockAt entries) (blockAt more) 0 q (λ k low high. same-block k (omega arith))
+  same-passed : (n : ℕ) → 31 * n ≤ length entries → listed (blockAt entries) 0 n ≡ listed (blockAt more) 0 n
+  same-passed n h = listed-same (blockAt entries) (blockAt more) 0 n (λ k low high. same-block k (omega arith))
 
-  -- the block is full, or is not
-  moved-on : onward (listed (blockAt more) 0 q) (contentOf q (drop (31 * q) more)) ≡ fedBy more
-  moved-on = elim (ℕ-discrete (length (drop (31 * q) more)) 31)
-      as (λ _. onward (listed (blockAt more) 0 q) (contentOf q (drop (31 * q) more)) ≡ fedBy more) [
-        | yes full ↦
-            let next : q + 1 ≡ wholeIn more = omega (arith, tail-length, one-more) in
-            let out : length more ≤ 31 * wholeIn more = omega (arith, tail-length, one-more) in
-            rw (eq-eqb (length (drop (31 * q) more)) 31 full)
-            (ap₂ fed (passed-more more q (wholeIn more) next (omega arith))
-            (ap₂ contentOf next (sym (drop-of-length-le more out))))
-        | no less ↦
-            let same : q ≡ wholeIn more = omega (arith, tail-length, one-more) in
-            rw (ne-eqb (length (drop (31 * q) more)) 31 less)
-            (ap (λ k. fed (listed (blockAt more) 0 k) (contentOf k (drop (31 * k) more))) same)
-      ]
+  -- the last block is full: it is passed on
+  one-passed : length rest ≡ 31
+      → fed (listed (blockAt entries) 0 q ++ (contentOf q rest ∷ [])) (addedRule (contentOf (q + 1) []) e) ≡ fedBy more
+  one-passed full =
+      let next : q + 1 ≡ passedIn more = omega (arith, rest-length, one-more) in
+      let end : 31 * passedIn more ≡ length entries = omega (arith, rest-length, one-more) in
+      ap₂ fed
+      (passed-more entries q (passedIn more) next (omega arith) ∙ same-passed (passedIn more) (omega arith))
+      (added-content (q + 1) [] e (omega arith)
+      ∙ ap₂ contentOf next (sym (ap (λ k. drop k more) end ∙ drop-append-seam entries (e ∷ []))))
+
+  -- it is not: the entry goes into it
+  one-added : (length rest ≡ 31 → ⊥)
+      → fed (listed (blockAt entries) 0 q) (addedRule (contentOf q rest) e) ≡ fedBy more
+  one-added less =
+      let same : q ≡ passedIn more = omega (arith, rest-length, one-more, less) in
+      ap₂ fed (same-passed q (omega arith))
+      (added-content q rest e (omega (arith, rest-length, less))
+      ∙ ap (contentOf q) (sym (drop-append-le (31 * q) entries (e ∷ []) (omega arith))))
+      ∙ ap (λ k. fed (listed (blockAt more) 0 k) (contentOf k (drop (31 * k) more))) same
 
   -- one entry more
   fed-one : fedOne (fedBy entries) e ≡ fedBy more
-  fed-one = ap₂ onward same-passed added ∙ moved-on
+  fed-one = elim (ℕ-discrete (length rest) 31) as (λ _. fedOne (fedBy entries) e ≡ fedBy more) [
+    | yes full ↦ rw (eq-eqb (length rest) 31 full) (one-passed full)
+    | no less ↦ rw (ne-eqb (length rest) 31 less) (one-added less)
+  ]
 
 -- many more
 pub fed-more : (before entries : List Entry) → feed (fedBy before) entries ≡ fedBy (before ++ entries)
@@ -123,7 +127,7 @@ fed-more before (e ∷ entries) =
 -- at the end all that is passed on is the log
 pub fed-passed : (entries : List Entry) → allPassed (fedBy entries) ≡ logOf entries
 fed-passed entries =
-    let q : ℕ = wholeIn entries in
+    let q : ℕ = passedIn entries in
     let size : length (drop (31 * q) entries) ≡ length entries - 31 * q = length-drop (31 * q) entries in
     elim (ℕ-discrete (length (drop (31 * q) entries)) 0) as (λ _. allPassed (fedBy entries) ≡ logOf entries) [
       | yes none ↦ rw (eq-eqb (length (drop (31 * q) entries)) 0 none) (ap (listed (blockAt entries) 0) (omega arith))

@@ -1,5 +1,5 @@
--- A log built entry by entry, as a program does that holds one block at a time: an entry goes behind the block's last
--- one, a block of 31 is passed on and the next begins, and at the end the last one is passed on where it has any.
+-- A log built entry by entry, as `logwrite` does, which holds one block at a time: an entry goes behind the block's last
+-- one; where that has 31 it is passed on first, and the next begins; at the end it is passed on where it has any.
 -- Assumes nothing.
 use mathlib.Core.Bool.{cond}
 use mathlib.Core.List.{List, [], _∷_, _++_}
@@ -28,14 +28,12 @@ fed passed current = record { passed = passed; current = current }
 abbrev pub noneFed : Fed
 noneFed = fed [] (contentOf 0 [])
 
--- a block of 31 is passed on, and the next begins
-abbrev pub onward : List Block → Block → Fed
-onward passed b =
-    cond (eqb (b .count) 31) (fed (passed ++ (b ∷ [])) (contentOf (b .number + 1) [])) (fed passed b)
-
--- one entry more
+-- one entry more: a block of 31 is passed on, and the next begins with it
 abbrev pub fedOne : Fed → Entry → Fed
-fedOne x e = onward (x .passed) (addedRule (x .current) e)
+fedOne x e =
+    cond (eqb (x .current .count) 31)
+    (fed (x .passed ++ (x .current ∷ [])) (addedRule (contentOf (x .current .number + 1) []) e))
+    (fed (x .passed) (addedRule (x .current) e))
 
 abbrev pub feed : Fed → List Entry → Fed
 feed x [] = x

@@ -1,0 +1,3 @@
+-- `Listing`: the lines of a block. `Rows`: worked lines.
+pub mod Listing
+pub mod Rows

@@ -1,0 +1,2 @@
+-- `Keeping`: the bytes of a line that are kept are within its buffer.
+pub mod Keeping
