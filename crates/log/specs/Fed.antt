@@ -6,7 +6,7 @@ use mathlib.Core.List.{List, [], _∷_, _++_, append-nil}
 use Prim.Native.Nat.{ℕ, zero, suc, _+_, _-_, _*_, _/_, _≤_, _<_}
 use native.Mathlib.Decide.{ℕ-discrete}
 use native.Mathlib.Omega.{arith}
-use lib.ListN.{length, set, take, drop, replicate, length-append, length-drop, drop-of-length-le}
+use lib.ListN.{length, set, take, drop, replicate, length-append, length-drop}
 use lib.Seq.{set-append-seam, take-all, take-append-le, drop-append-le, drop-append-seam, append-snoc}
 use borrow.Author.Tests.{lt-leb, eq-eqb, ne-eqb}
 use Rattle.below.specs.Listed.{listed, listed-same}
