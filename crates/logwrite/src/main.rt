@@ -3,9 +3,9 @@
 // are `log`, and the bytes of a block are `card`, all proved to the letter. This file is proved safe and to end: it
 // counts the pieces that it reads, and the count stays below 2^64 - 1, which is more than any input has.
 // What no proof says, since no contract can speak of what is read or written, is that it hands over each line in order
-// and once, that an opening that is done ends the log so far, and that the blocks of a log are numbered from 0 and are
-// written in order and once, each with 31 entries but the last. A line of more than 34 bytes is bad whatever it says
-// (`long-bad` of `lines`), so of a longer line the first 64 bytes are kept and say the same.
+// and once, that an opening that is done ends the log so far, and that an entry goes into the block, and a block to
+// standard output, as `feed` of `log` has it: that this is the log is `fed-all` there. A line of more than 34 bytes is
+// bad whatever it says (`long-bad` of `lines`), so of a longer line the first 64 bytes are kept and say the same.
 ghost use Prim.Native.Nat.{_≤_};
 ghost use lib.ListN.{length};
 use card::Block;
@@ -121,19 +121,9 @@ impl Logger {
         }
     }
 
-    fn arrive(
-        self,
-        flow: u32,
-        bytes: u32,
-        handle: u32,
-        lengths: &mut [u16],
-        handles: &mut [u32],
-    ) -> Logger {
+    // The record after a call, and what the call logs.
+    fn after(self, held: Record, noted: Noted) -> Logger {
         let mut script = self.script;
-        let before = script.held;
-        let logged = log::arrival(before, flow, bytes, handle, lengths, handles);
-        let held = logged.next;
-        let noted = logged.noted;
         script.held = held;
         let block = self.block;
         let next = Logger {
@@ -144,20 +134,29 @@ impl Logger {
         next.note(noted)
     }
 
-    fn pick(self, lengths: &mut [u16], handles: &mut [u32]) -> Logger {
-        let mut script = self.script;
-        let before = script.held;
-        let logged = log::pick(before, lengths, handles);
-        let held = logged.next;
+    fn arrive(
+        self,
+        flow: u32,
+        bytes: u32,
+        handle: u32,
+        lengths: &mut [u16],
+        handles: &mut [u32],
+    ) -> Logger {
+        let script = self.script;
+        let held = script.held;
+        let logged = log::arrival(held, flow, bytes, handle, lengths, handles);
+        let next = logged.next;
         let noted = logged.noted;
-        script.held = held;
-        let block = self.block;
-        let next = Logger {
-            script,
-            block,
-            going: true,
-        };
-        next.note(noted)
+        self.after(next, noted)
+    }
+
+    fn pick(self, lengths: &mut [u16], handles: &mut [u32]) -> Logger {
+        let script = self.script;
+        let held = script.held;
+        let logged = log::pick(held, lengths, handles);
+        let next = logged.next;
+        let noted = logged.noted;
+        self.after(next, noted)
     }
 
     // A row of the table, or a bad line: no call is made, and what the script program would write is let go.
