@@ -12,16 +12,12 @@ use Rattle.below.specs.Listed.{listed}
 use Rattle.below.specs.Joined.{joined}
 use Rattle.fields.specs.Bytes.{bytesOf, numberOf, part}
 use Rattle.sums.specs.Sums.{total, running, sumsOf, sumsRight}
-use Rattle.entries.specs.Entry.{entryBytes, entryOf, noEntry}
+use Rattle.entries.specs.Entry.{entry, entryBytes, entryOf, noEntry}
 use Rattle.entries.specs.Legal.{kindOf, packetLegal, restBlank, entryLegal, entryBlank}
 use Rattle.entries.specs.declared.Entry.{Entry}
 use Rattle.card.specs.declared.Block.{Block}
 use Rattle.card.specs.Block.{bodyBytes, sumBytes, blockBytes, blockOf, entryMay, blockLegal}
 use Rattle.card.specs.Card.{readRule, writeRule}
-
-abbrev entry : ℕ → ℕ → ℕ → ℕ → ℕ → Entry
-entry kind flow length handle clock =
-    record { kind = kind; flow = flow; length = length; handle = handle; clock = clock }
 
 -- document 01's example, P1 to P4: two arrivals of 100 bytes, their picks and an Idle
 abbrev pub worked : Block

@@ -7,6 +7,11 @@ use lib.ListN.{getD}
 use Rattle.fields.specs.Bytes.{bytesOf, numberOf, part}
 use Rattle.entries.specs.declared.Entry.{Entry}
 
+-- an entry by its fields
+abbrev pub entry : ℕ → ℕ → ℕ → ℕ → ℕ → Entry
+entry kind flow length handle clock =
+    record { kind = kind; flow = flow; length = length; handle = handle; clock = clock }
+
 -- the bytes of an entry
 unfoldable pub entryBytes : Entry → List ℕ
 entryBytes e = e .kind ∷ e .flow ∷ (bytesOf 2 (e .length) ++ (bytesOf 4 (e .handle) ++ bytesOf 8 (e .clock)))
@@ -24,7 +29,7 @@ entryOf bytes =
 
 -- "Unused entries are zeros."
 abbrev pub noEntry : Entry
-noEntry = record { kind = 0; flow = 0; length = 0; handle = 0; clock = 0 }
+noEntry = entry 0 0 0 0 0
 
 -- each field fits its bytes: of a value of the type this is so
 pub record EntryFits (e : Entry) : Type 0 where

@@ -22,8 +22,9 @@ use Rattle.uplink.specs.PickReply.{pickReply}
 use Rattle.uplink.specs.Calls.{Call, arrival, pick, afterCall}
 use Rattle.uplink.specs.declared.PickReply.{PickReply}
 use Rattle.uplink.specs.declared.Record.{Record}
+use Rattle.entries.specs.Entry.{entry}
 use Rattle.entries.specs.declared.Entry.{Entry}
-use Rattle.log.specs.Logged.{entry, idleEntry, logged}
+use Rattle.log.specs.Logged.{idleEntry, logged}
 use Rattle.log.specs.Noted.{noting, noteRule}
 use Rattle.log.specs.Ways.{arrival-ways, pick-ways}
 

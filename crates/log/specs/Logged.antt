@@ -7,11 +7,8 @@ use lib.ListN.{getD}
 use Rattle.reply.specs.Reply.{Reply, idle, done, refused}
 use Rattle.uplink.specs.State.{State, Outcome}
 use Rattle.uplink.specs.Calls.{Call, opening, arrival, pick, afterCall}
+use Rattle.entries.specs.Entry.{entry}
 use Rattle.entries.specs.declared.Entry.{Entry}
-
-abbrev pub entry : ℕ → ℕ → ℕ → ℕ → ℕ → Entry
-entry kind flow length handle clock =
-    record { kind = kind; flow = flow; length = length; handle = handle; clock = clock }
 
 -- "4 Idle .. Idle has zeros in all these."
 abbrev pub idleEntry : Entry

@@ -25,10 +25,10 @@ use Rattle.uplink.specs.Arrival.{lastPlace, storeRule, arrivalRule}
 use Rattle.uplink.specs.Pick.{clockLimit, leapt, clockAfter, frontPlace, frontLength, frontHandle, serveRule, idleRule}
 use Rattle.uplink.specs.Pick.{pickRule}
 use Rattle.uplink.specs.Calls.{Call, opening, arrival, pick, start, afterCall}
-use Rattle.entries.specs.Entry.{EntryFits, noEntry}
+use Rattle.entries.specs.Entry.{entry, EntryFits, noEntry}
 use Rattle.entries.specs.Legal.{kindOf, packetLegal, restBlank, legalAs, entryLegal}
 use Rattle.entries.specs.declared.Entry.{Entry}
-use Rattle.log.specs.Logged.{entry, idleEntry, logged, entriesOf}
+use Rattle.log.specs.Logged.{idleEntry, logged, entriesOf}
 use Rattle.log.specs.Ways.{arrival-ways, pick-ways}
 
 -- an entry within the rules whose fields fit their bytes

@@ -6,9 +6,10 @@ use Prim.Native.Nat.{ℕ}
 use lib.ListN.{length, replicate}
 use Rattle.below.specs.Listed.{listed}
 use Rattle.uplink.specs.Calls.{Call, opening, arrival, pick, start, everyRule}
+use Rattle.entries.specs.Entry.{entry}
 use Rattle.entries.specs.declared.Entry.{Entry}
 use Rattle.card.specs.declared.Block.{Block}
-use Rattle.log.specs.Logged.{entry, idleEntry, entriesOf}
+use Rattle.log.specs.Logged.{idleEntry, entriesOf}
 use Rattle.log.specs.Log.{contentOf, logOf, logsOf}
 
 -- "Two flows, q = 500, largest 100"
