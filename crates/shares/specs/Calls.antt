@@ -13,7 +13,6 @@ use Rattle.queues.specs.Places.{lent}
 use Rattle.queues.specs.Laws.{join-cases, queue-at}
 use Rattle.tags.specs.Ticks.{leaps, leapClock}
 use Rattle.tags.specs.Choice.{Smallest}
-use Rattle.tags.specs.Chosen.{leads}
 use Rattle.uplink.specs.Record.{tagOf, waitingOf, put}
 use Rattle.reply.specs.State.{demand, kept, unlessRefused}
 use Rattle.uplink.specs.State.{State, Outcome}
@@ -21,6 +20,8 @@ use Rattle.uplink.specs.Form.{checked}
 use Rattle.uplink.specs.Formed.{formed-in}
 use Rattle.uplink.specs.Arrival.{storeRule, joinRule}
 use Rattle.uplink.specs.Pick.{clockLimit, serveRule, idleRule}
+use Rattle.uplink.specs.Leading.{lead-nobody}
+use Rattle.uplink.specs.Put.{store-put, serve-put}
 use Rattle.uplink.specs.Calls.{Call, opening, arrival, pick}
 use Rattle.shares.specs.Keep.{Table}
 use Rattle.shares.specs.Start.{behind, MovesAt, same-moves}
@@ -81,7 +82,7 @@ module _ (s : State) (S : Steady s) where
     where
       go : (b : Bool) → somethingWaits s ≡ b
           → P (cond b (demand (ltb (clockOf s) clockLimit) 10 s (serveRule s (t .flow))) (idleRule s))
-      go false e = ways .rests refl (leads (tagOf (s .held)) (waitingOf (s .held)) (s .held .flows) .nobody e)
+      go false e = ways .rests refl (lead-nobody (s .held) e)
       go true e = tested P (ltb (clockOf s) clockLimit) _ (kept 10 s)
           (λ c. ways .refuses 10 (record { late = omega arith; ten = λ _. (refl, e, ltb-false _ clockLimit c) }))
           λ c. ways .serves refl (t .flow) (t .smallest e) (ltb-true _ clockLimit c)
@@ -127,13 +128,14 @@ leap-clock clock width T ticks = go (leaps clock width T)
 module _ (s : State) (S : Steady s) (call : Call) (o : Outcome) (plain : Plain call) (gives : Gives s call o) where
   -- no call but an opening loses what is steady, or the table
   pub call-keeps : Steady (o .state) × (tableOf (o .state) ≡ tableOf s)
-  unfolding storeRule serveRule idleRule
+  unfolding idleRule
   call-keeps = call-ways s S call o plain gives (λ o. Steady (o .state) × (tableOf (o .state) ≡ tableOf s))
       record {
         refuses = λ number _. (S, refl);
-        stores = λ f n handle joins. (store-steady s f n handle S joins, store-table s f n handle S joins);
+        stores = λ f n handle joins. rw (store-put s f n handle)
+            (store-steady s f n handle S joins, store-table s f n handle S joins);
         rests = λ _ nobody. (idle-steady s S nobody, idle-table s S);
-        serves = λ _ f small below. (serve-steady s f S small below, serve-table s f S small);
+        serves = λ _ f small below. rw (serve-put s f) (serve-steady s f S small below, serve-table s f S small);
       }
 
   -- what the call has to do with the flows, where flow f waits if it is a pick

@@ -3,25 +3,22 @@
 use mathlib.Core.Path.{_≡_, refl, sym, ap, _∙_}
 use mathlib.Core.Bool.{Bool, true, false, cond}
 use mathlib.Core.List.{List, []}
-use Prim.Native.Nat.{ℕ, zero, suc, _≤_, _<_}
+use Prim.Native.Nat.{ℕ, zero, suc, _≤_}
 use native.Mathlib.Omega.{arith}
 use lib.Dec.{leb}
-use lib.ListN.{length, getD, replicate, List·getD-eq-default}
+use lib.ListN.{length, getD, replicate}
 use Rattle.cost.specs.Cost.{within}
 use Rattle.reply.specs.Reply.{Reply, idle, done, refused, replyNumber}
-use Rattle.queues.specs.Queue.{queueOf}
 use Rattle.queues.specs.Queues.{sharesOf}
 use Rattle.queues.specs.Places.{lent}
 use Rattle.queues.specs.Opening.{newQueues, paired, faultFrom, orElse, tableReply, listsReply}
-use Rattle.queues.specs.Laws.{ranged-in, queue-in, zeros-at, opened-at, opened-sized}
+use Rattle.queues.specs.Laws.{zeros-at}
 use Rattle.queues.specs.Openable.{Openable, openable}
-use Rattle.tags.specs.Laws.{tag-idle-in}
-use Rattle.uplink.specs.Flow.{flowOf, spareFlow}
-use Rattle.uplink.specs.Record.{blank, flowAt, tagOf, waitingOf, rested-at}
+use Rattle.uplink.specs.Record.{blank}
 use Rattle.reply.specs.State.{state, openedBy, opened-reply}
 use Rattle.uplink.specs.State.{State}
-use Rattle.uplink.specs.Formed.{Formed, FlowFormed, no-flow-spare}
 use Rattle.uplink.specs.Opening.{newRecord, openingRule}
+use Rattle.uplink.specs.Restarts.{opened-rows, opened-tag, opened-waiting, opened-formed}
 use Rattle.uplink.specs.declared.Record.{Record}
 use Rattle.shares.specs.Runs.{openingIn}
 use Rattle.shares.specs.Keep.{reset-good}
@@ -47,77 +44,19 @@ module _ (shares largest : List ℕ) (header : ℕ) where
         ap (λ given. openedBy given new blank lengths handles .state) all,
       )
 
-  -- flow f as it opens
-  opened-flow : (f : ℕ) → f < 64 → flowAt new f ≡ flowOf 0 (queueOf (getD shares f 0) (getD largest f 0) 0 0)
-  unfolding newRecord
-  opened-flow f l = rested-at new f ∙ ap (flowOf 0) (opened-at shares largest f l)
-
-  -- it has no tag
-  opened-tag : (f : ℕ) → f < 64 → tagOf new f ≡ 0
-  opened-tag f l = ap (λ x. x .tag .0) (opened-flow f l)
-
-  -- and nothing waits in it
-  opened-waiting : (f : ℕ) → f < 64 → waitingOf new f ≡ 0
-  opened-waiting f l = ap (λ x. x .queue .waiting) (opened-flow f l)
-
-  module _ (lengths handles : List ℕ) (o : Openable shares largest header lengths handles) where
-    -- every flow of the table is in form
-    opened-each : (f : ℕ) → f < length shares → FlowFormed new (replicate 4096 0) f
-    unfolding newRecord
-    opened-each f l =
-        let inside : f < 64 = omega (arith, o .few) in
-        let R = o .each f l in
-        record {
-          range = rw (opened-at shares largest f inside) (ranged-in _ (omega (
-            arith,
-            R .share-low,
-            R .share-high,
-            R .largest-low,
-            R .largest-high,
-          )));
-          queue = queue-in f (replicate 4096 0) (flowAt new f .queue)
-              λ k h. absurd (omega (arith, opened-waiting f inside));
-          tag = tag-idle-in 0 (new .width) (tagOf new f) (waitingOf new f) (opened-waiting f inside)
-              (omega (arith, opened-tag f inside));
-        }
-
-    -- beyond the lists both numbers are 0
-    opened-rest : (f : ℕ) → length shares ≤ f → f < 64 → spareFlow (flowAt new f) ≡ true
-    opened-rest f l b = rw (
-      opened-flow f b,
-      List·getD-eq-default shares 0 l,
-      List·getD-eq-default largest 0 {n = f} (omega (arith, o .paired-lists)),
-    ) no-flow-spare
-
-    -- the form holds
-    opened-form : Formed new (replicate 4096 0)
-    unfolding newRecord
-    opened-form =
-        record {
-          some = o .some;
-          few = o .few;
-          header = o .short;
-          shares = o .sum;
-          width = refl;
-          each = opened-each;
-          link = omega arith;
-          clock = omega arith;
-          rest = opened-rest;
-        }
-
-    -- the state is steady
-    opened-steady : Steady opened
-    unfolding newRecord
-    opened-steady =
-        record {
-          rows = record { tags = refl; queues = opened-sized shares largest };
-          lengths-lent = refl;
-          handles-lent = refl;
-          form = opened-form;
-          good = reset-good (tableOf opened)
-              (λ f l. opened-tag f (omega (arith, o .few)))
-              (λ f l. charge-idle opened f (opened-waiting f (omega (arith, o .few))));
-        }
+  -- which is steady
+  opened-steady : (lengths handles : List ℕ) → Openable shares largest header lengths handles → Steady opened
+  opened-steady lengths handles o =
+      let F = opened-formed shares largest header lengths handles o in
+      record {
+        rows = opened-rows shares largest header;
+        lengths-lent = refl;
+        handles-lent = refl;
+        form = F;
+        good = reset-good (tableOf opened)
+            (λ f l. opened-tag shares largest header f (omega (arith, F .few)))
+            (λ f l. charge-idle opened f (opened-waiting shares largest header f (omega (arith, F .few))));
+      }
 
 module _ (s : State) (shares largest : List ℕ) (header : ℕ)
     (accepted : openingIn s shares largest header .reply ≡ done []) where

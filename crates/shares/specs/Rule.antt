@@ -4,11 +4,11 @@ use mathlib.Core.Path.{_≡_, refl}
 use mathlib.Core.List.{List, [], _∷_}
 use Prim.Native.Nat.{ℕ, _+_, _*_, _/_, _≤_, _<_}
 use Rattle.reply.specs.Reply.{done, refused}
-use Rattle.tags.specs.Chosen.{leads}
 use Rattle.uplink.specs.Flow.{flowCost}
 use Rattle.uplink.specs.Record.{flowAt, tagOf, waitingOf}
 use Rattle.uplink.specs.State.{State}
 use Rattle.uplink.specs.Pick.{leadOf, pickRule, chooseRule}
+use Rattle.uplink.specs.Leading.{lead-smallest}
 use Rattle.uplink.specs.Calls.{Call, opening, arrival, pick, afterCall}
 use Rattle.shares.specs.Runs.{takeRule, Taken, Gives, NoOpening, Event, Stretch, endOf, runOf, Carried, Restarted}
 use Rattle.shares.specs.Runs.{chargeFor, picked, pickedOf, picksOf, leapsOf, lastTag, waitingCharge, WaitsAtPicks}
@@ -23,7 +23,7 @@ unfolding chooseRule takeRule
 rule-taken s =
     record {
       flow = leadOf (s .held) .flow;
-      smallest = leads (tagOf (s .held)) (waitingOf (s .held)) (s .held .flows) .smallest;
+      smallest = lead-smallest (s .held);
       taken = refl;
     }
 

@@ -13,7 +13,7 @@ use Rattle.cost.specs.Charge.{chargeTicks, linkTicks}
 use Rattle.queues.specs.Queue.{placeOf}
 use Rattle.queues.specs.Form.{ranged, queueFormed}
 use Rattle.queues.specs.Laws.{Ranged, ranged-out, ranged-in, queue-at, queue-in, place-apart}
-use Rattle.tags.specs.Ticks.{ticks, leaps, frontTag}
+use Rattle.tags.specs.Ticks.{leaps, frontTag}
 use Rattle.tags.specs.Choice.{Smallest}
 use Rattle.tags.specs.Laws.{tag-at-most, leap-low, leap-high, leap-near}
 use Rattle.uplink.specs.Flow.{Flow, flowCost, servedFlow}
@@ -21,34 +21,25 @@ use Rattle.uplink.specs.Record.{tagOf, waitingOf}
 use Rattle.uplink.specs.State.{State}
 use Rattle.uplink.specs.Form.{clockEnd}
 use Rattle.uplink.specs.Formed.{FlowFormed, width-most}
-use Rattle.uplink.specs.Pick.{clockLimit, behindLength, frontCharge, behindCharge, clockLeapt, clockAfter, linkOn}
+use Rattle.uplink.specs.Pick.{clockLimit, behindLength, frontCharge, behindCharge, clockLeapt, clockAfter}
+use Rattle.uplink.specs.Put.{Put, putState, servedPut, lengthIn, put-each}
 use Rattle.shares.specs.Keep.{Sound, View, Good, Change, unchanged, change-again, front-good, leap-good, in-time}
 use Rattle.shares.specs.Keep.{serve-good}
 use Rattle.shares.specs.Bridge.{flowOf, clockOf, tableOf, viewOf, Steady, charge-waits, waits-charge, charge-some}
 use Rattle.shares.specs.Bridge.{table-sound, packet-fits, IdleTags}
-use Rattle.shares.specs.Put.{Put, putState, lengthIn, put-each, put-charge, put-idle, put-change, put-table}
-use Rattle.shares.specs.Put.{put-steady}
+use Rattle.shares.specs.Put.{put-charge, put-idle, put-change, put-table, put-steady}
 use Rattle.shares.specs.Start.{behind, MovesAt, same-moves, moves-then, front-moves, serve-moves}
 
 module _ (s : State) (f : ℕ) where
-  -- flow f before and after, and the state after
+  -- what the pick puts, flow f before and after, and the state after
+  abbrev served : Put
+  served = servedPut s f
+
   abbrev old : Flow
   old = flowOf s f
 
   abbrev new : Flow
-  new = servedFlow old (ticks (clockAfter s f)) (flowCost old) (behindCharge s f)
-
-  abbrev served : Put
-  served =
-      record {
-        index = f;
-        flow = new;
-        number = 0;
-        bytes = 0;
-        handle = 0;
-        clock = clockAfter s f;
-        link = linkOn s f;
-      }
+  new = served .flow
 
   abbrev after : State
   after = putState s served
@@ -192,7 +183,7 @@ module _ (s : State) (f : ℕ) where
     -- the flow keeps its tag where nothing waits after it, and a flow that was not picked is as it was
     pub serve-idle : (told : ℕ → ℕ) → IdleTags s told → IdleTags after (λ j. cond (eqb f j) (old .tag .0) (told j))
     unfolding servedFlow
-    serve-idle told before = put-each s served S (small .counts)
+    serve-idle told before = put-each s served (S .rows) (S .form) (small .counts)
         (λ j x. x .queue .waiting ≡ 0 → x .tag .0 ≡ cond (eqb f j) (old .tag .0) (told j))
         (λ e. rw (eq-eqb f f refl, le-ltb 1 (old .queue .waiting) (omega arith)))
         λ j q. rw (ne-eqb f j λ e. q (sym e)) (before j)

@@ -14,10 +14,11 @@ use Rattle.tags.specs.Ticks.{frontTag}
 use Rattle.uplink.specs.Flow.{Flow, flowCost, joinedFlow}
 use Rattle.uplink.specs.State.{State}
 use Rattle.uplink.specs.Formed.{FlowFormed}
+use Rattle.uplink.specs.Put.{Put, putState, storedPut, lengthIn, put-each}
 use Rattle.shares.specs.Keep.{Good, Change, unchanged, front-good}
 use Rattle.shares.specs.Bridge.{flowOf, clockOf, tableOf, viewOf, Steady, charge-idle, charge-waits, table-sound}
 use Rattle.shares.specs.Bridge.{packet-fits, IdleTags}
-use Rattle.shares.specs.Put.{Put, putState, lengthIn, put-each, put-charge, put-change, put-table, put-steady}
+use Rattle.shares.specs.Put.{put-charge, put-change, put-table, put-steady}
 use Rattle.shares.specs.Start.{MovesAt, same-moves, front-moves}
 
 -- an arrival of n bytes at flow f that is taken
@@ -25,7 +26,10 @@ abbrev pub Joins : State → ℕ → ℕ → Type 0
 Joins s f n = Joinable (s .held .flows) f n (flowOf s f .queue .largest) (flowOf s f .queue .waiting)
 
 module _ (s : State) (f n handle : ℕ) where
-  -- the packet's charge, flow f before and after, the clock, and the state after
+  -- what the arrival puts, the packet's charge, flow f before and after, the clock, and the state after
+  abbrev stored : Put
+  stored = storedPut s f n handle
+
   abbrev charge : ℕ
   charge = chargeOf (s .held .header) n
 
@@ -36,19 +40,7 @@ module _ (s : State) (f n handle : ℕ) where
   clock = clockOf s
 
   abbrev new : Flow
-  new = joinedFlow old (s .held .clock) (flowCost old) charge
-
-  abbrev stored : Put
-  stored =
-      record {
-        index = f;
-        flow = new;
-        number = old .queue .waiting;
-        bytes = n;
-        handle = handle;
-        clock = clock;
-        link = s .held .link .0;
-      }
+  new = stored .flow
 
   abbrev after : State
   after = putState s stored
@@ -124,8 +116,8 @@ module _ (s : State) (f n handle : ℕ) where
     -- a flow with nothing waiting after it is as it was
     pub store-idle : (told : ℕ → ℕ) → IdleTags s told → IdleTags after told
     unfolding joinedFlow
-    store-idle told before = put-each s stored S inside (λ j x. x .queue .waiting ≡ 0 → x .tag .0 ≡ told j)
-        (λ e. absurd (omega arith)) λ j _. before j
+    store-idle told before = put-each s stored (S .rows) (S .form) inside
+        (λ j x. x .queue .waiting ≡ 0 → x .tag .0 ≡ told j) (λ e. absurd (omega arith)) λ j _. before j
 
     -- no flow's start moves
     pub store-moves : (g : ℕ) → MovesAt (tableOf s .cost) g 0 clock (viewOf s) clock (viewOf after)
