@@ -14,17 +14,17 @@ use Rattle.reply.specs.Replies.{refused-done}
 use Rattle.queues.specs.Queues.{putQueue}
 use Rattle.queues.specs.Places.{lent}
 use Rattle.queues.specs.Laws.{join-cases}
-use Rattle.tags.specs.Chosen.{leads}
 use Rattle.tags.specs.declared.LinkTicks.{LinkTicks}
 use Rattle.tags.specs.declared.ServerTicks.{ServerTicks}
 use Rattle.uplink.specs.Flow.{Flow, joinedFlow, servedFlow}
-use Rattle.uplink.specs.Record.{flowAt, tagOf, waitingOf, with, put, rested, Rows}
+use Rattle.uplink.specs.Record.{flowAt, tagOf, with, put, rested, Rows}
 use Rattle.reply.specs.State.{state, outcome, demand, unlessRefused}
 use Rattle.uplink.specs.State.{State, Outcome}
 use Rattle.uplink.specs.Form.{formed, checked}
 use Rattle.uplink.specs.Formed.{formed-out}
 use Rattle.uplink.specs.Arrival.{storeRule, joinRule, arrivalRule}
 use Rattle.uplink.specs.Pick.{clockLimit, leadOf, serveRule, idleRule, chooseRule, pickRule}
+use Rattle.uplink.specs.Leading.{lead-smallest}
 use Rattle.uplink.specs.declared.Record.{Record}
 use Rattle.gateway.specs.Step.{flowIn, Kept}
 
@@ -140,7 +140,7 @@ module _ (s : State) (R : Rows (s .held)) where
   choice-follows false e few = follows-idle s flowIn (omega arith)
   choice-follows true e few =
       let lead = leadOf (s .held) in
-      let below = leads (tagOf (s .held)) (waitingOf (s .held)) (s .held .flows) .smallest e .counts in
+      let below = lead-smallest (s .held) e .counts in
       follows-else s flowIn (ltb (s .held .clock .0) clockLimit) 10 (omega arith) λ _.
       follows-put s flowIn _ _ _ (lead .flow) _ _ _ R (omega (arith, below, few)) (omega (arith, below, few)) refl refl
 

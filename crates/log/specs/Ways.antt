@@ -10,13 +10,13 @@ use Rattle.reply.specs.State.{demand, kept, unlessRefused}
 use Rattle.queues.specs.Laws.{Joinable, join-cases}
 use Rattle.queues.specs.Places.{lent}
 use Rattle.tags.specs.Choice.{Smallest}
-use Rattle.tags.specs.Chosen.{leads}
 use Rattle.uplink.specs.Record.{flowAt, tagOf, waitingOf}
 use Rattle.uplink.specs.State.{State, Outcome}
 use Rattle.uplink.specs.Form.{formed, checked}
 use Rattle.uplink.specs.Formed.{Formed, formed-out}
 use Rattle.uplink.specs.Arrival.{storeRule, joinRule, arrivalRule}
 use Rattle.uplink.specs.Pick.{clockLimit, leadOf, serveRule, idleRule, chooseRule, pickRule}
+use Rattle.uplink.specs.Leading.{lead-smallest}
 
 -- a test that the call goes on with, or is refused by
 tested : {A : Type 0} (P : A → Type 0) (test : Bool) (on stop : A) → P stop → (test ≡ true → P on)
@@ -55,6 +55,4 @@ module _ (s : State) (P : Outcome → Type 0) (refuses : (number : ℕ) → P (k
       tested P (leadOf (s .held) .waits)
       (demand (ltb (s .held .clock .0) clockLimit) 10 s (serveRule s (leadOf (s .held) .flow))) (idleRule s) rests
       λ w. tested P (ltb (s .held .clock .0) clockLimit) (serveRule s (leadOf (s .held) .flow)) (kept 10 s) (refuses 10)
-      λ c. serves (leadOf (s .held) .flow) F
-      (leads (tagOf (s .held)) (waitingOf (s .held)) (s .held .flows) .smallest w)
-      (ltb-true (s .held .clock .0) clockLimit c)
+      λ c. serves (leadOf (s .held) .flow) F (lead-smallest (s .held) w) (ltb-true (s .held .clock .0) clockLimit c)
