@@ -3,8 +3,8 @@
 -- paper's values for a pick's answer. `State`: what a call is given and what it gives back.
 -- `Form`: when a record is well formed. `Opening`, `Arrival`, `Pick`: the rules of the three calls. `Calls`: the three
 -- as one. `Formed`: what callers draw from the form. `Ready`: what the checks leave where a call goes on.
--- What a call leaves, for theorems over several calls. `Leading`: who leads. `Put`: one flow put anew, by an arrival or a
--- pick. `Restarts`: an Idle and an opening.
+-- For theorems over several calls: `Leading`, who leads; `Put`, one flow put anew by an arrival or a pick; `Restarts`,
+-- the record after an Idle and after an opening.
 pub mod Flow
 pub mod Record
 pub mod PickReply
