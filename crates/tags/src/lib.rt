@@ -9,6 +9,7 @@ mod steps;
 
 pub use choice::Lead;
 pub use choice::choose;
+pub use choice::turn_after;
 pub use form::are_formed;
 pub use steps::Leapt;
 pub use steps::front_tag;

@@ -65,7 +65,7 @@ module _ (r : Record) (lengths handles : List ℕ) (f n handle : ℕ) (a : Bool)
       abbrev joined : List ℕ → Outcome
       joined tags =
           outcome (arrivalReply reply) (with r (r .clock) (r .link) (tagsOf tags)
-          (queuesOf (r .queues .share) (r .queues .largest) (r .queues .first) waits)) ls hs
+          (queuesOf (r .queues .share) (r .queues .largest) (r .queues .first) waits) (r .turn)) ls hs
 
       -- where the flow's tag is the rule's, so is all else
       arrived : (tags : List ℕ)

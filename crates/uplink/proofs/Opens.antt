@@ -45,6 +45,7 @@ module _ (shares largest : List ℕ) (header : ℕ) (lengths handles : List ℕ)
           link = start .link;
           tags = start .tags;
           queues = q;
+          turn = start .turn;
         }) ls hs
         ≡ openingRule shares largest header lengths handles
     unfolding openingRule newRecord widthOf

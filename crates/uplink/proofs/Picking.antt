@@ -18,6 +18,7 @@ use Rattle.queues.specs.Places.{lent, freedOf}
 use Rattle.queues.specs.Checked.{both-lent}
 use Rattle.queues.specs.declared.places.Freed.{Freed}
 use Rattle.tags.specs.Ticks.{ticks, leapRule, frontTag}
+use Rattle.tags.specs.Choice.{turnAfter}
 use Rattle.tags.specs.Chosen.{Leads, leads, Tagged}
 use Rattle.tags.specs.Laws.{leap-high}
 use Rattle.tags.specs.declared.LinkTicks.{LinkTicks}
@@ -73,9 +74,9 @@ gone-most gone header f first clock link lengths handles e l h = rw e (omega (ar
 module _ (r : Record) (lengths handles : List ℕ) (a : Bool) (l : a ≡ lent lengths handles) (lends : not a ≡ false)
     (b : Bool) (e : b ≡ formed r lengths) (fine : not b ≡ false) where
   -- no tag of a flow that counts stands for none
-  pub tagged : (r .flows ≤ 64) × Tagged (r .tags .0) (r .flows)
+  pub tagged : (r .turn < 64) × (r .flows ≤ 64) × Tagged (r .tags .0) (r .flows)
   tagged = let F = was-formed r lengths b e fine in
-      (F .few, record { each = λ f h. omega (arith, tag-fits r lengths F f h) })
+      (F .turn, F .few, record { each = λ f h. omega (arith, tag-fits r lengths F f h) })
 
   -- past refusals 1 and 2
   picked-on : (o : Outcome) → o ≡ chooseRule (state r lengths handles) → o ≡ pickRule (state r lengths handles)
@@ -95,21 +96,21 @@ module _ (r : Record) (lengths handles : List ℕ) (a : Bool) (l : a ≡ lent le
       unfolding chooseRule
       picked-late h = picked-on _ (rw (← led, not-false (lead .waits) w, le-ltb (r .clock .0) clockLimit h))
 
-      leader : Leads (tagOf r) (waitingOf r) (r .flows) lead
-      leader = rw (← led) at (leads (tagOf r) (waitingOf r) (r .flows))
+      leader : Leads (r .turn) (tagOf r) (waitingOf r) (r .flows) lead
+      leader = rw (← led) at (leads (r .turn) (tagOf r) (waitingOf r) (r .flows))
 
       own : tagOf r (lead .flow) ≡ lead .tag .0
       own = leader .own (not-false (lead .waits) w)
 
       module _ (soon : r .clock .0 < clockLimit) where
         pub leaving : (table : List ℕ) → table ≡ costs → Leaves r (lead .flow) table lengths handles
-        leaving table right = let chosen = leader .smallest (not-false (lead .waits) w) in
+        leaving table right = let chosen = leader .first (not-false (lead .waits) w) .smallest in
             leaves r (lead .flow) table lengths handles right (both-lent lengths handles a l lends)
             (was-formed r lengths b e fine) (chosen .counts) (chosen .waits) soon
 
         -- its tag is the leader's
         pub led-tag : lead .tag .0 < 2 ^ 63
-        led-tag = let chosen = leader .smallest (not-false (lead .waits) w) in
+        led-tag = let chosen = leader .first (not-false (lead .waits) w) .smallest in
             omega (arith, tag-fits r lengths (was-formed r lengths b e fine) (lead .flow) (chosen .counts), own)
 
         -- the front packet goes
@@ -119,8 +120,8 @@ module _ (r : Record) (lengths handles : List ℕ) (a : Bool) (l : a ≡ lent le
         served-on o q =
             picked-on o (rw (← led, not-false (lead .waits) w, lt-ltb (r .clock .0) clockLimit soon) q)
 
-        module _ (first waiting : ℕ) (leap : Leapt) (gone : Gone) (firsts waits ls hs : List ℕ)
-            (leapt : leap ≡ leapRule (r .clock) (r .width) (lead .tag))
+        module _ (first waiting turn : ℕ) (leap : Leapt) (gone : Gone) (firsts waits ls hs : List ℕ)
+            (on-turn : turn ≡ turnAfter (lead .flow)) (leapt : leap ≡ leapRule (r .clock) (r .width) (lead .tag))
             (a-first : first ≡ flowAt r (lead .flow) .queue .first) (a-waiting : waiting ≡ waitingOf r (lead .flow))
             (went : (gone ≡ goneOf (r .header) (lead .flow) first (leap .clock .0) (r .link .0) lengths handles)
             × (ls ≡ set lengths (placeOf (lead .flow) first 0) 0)
@@ -133,7 +134,7 @@ module _ (r : Record) (lengths handles : List ℕ) (a : Bool) (l : a ≡ lent le
               outcome
               (packet (lead .flow) (gone .length) (gone .handle) (lead .tag .0) (leap .leapt) (gone .clock .0))
               (with r (gone .clock) (gone .link) (tagsOf tags)
-              (queuesOf (r .queues .share) (r .queues .largest) firsts waits)) ls hs
+              (queuesOf (r .queues .share) (r .queues .largest) firsts waits) turn) ls hs
 
           -- where the flow's tag is the rule's, so is all else
           picked : (tags : List ℕ)
@@ -150,6 +151,7 @@ module _ (r : Record) (lengths handles : List ℕ) (a : Bool) (l : a ≡ lent le
             went .0,
             on,
             fewer,
+            on-turn,
             leapt,
             a-first,
             a-waiting,

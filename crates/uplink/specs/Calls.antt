@@ -16,7 +16,7 @@ use Rattle.uplink.specs.Flow.{spareFlow, joinedFlow, servedFlow}
 use Rattle.uplink.specs.Record.{blank, put}
 use Rattle.reply.specs.State.{state}
 use Rattle.uplink.specs.State.{State, Outcome}
-use Rattle.uplink.specs.Form.{clocksFormed, restSpare, formed, checked}
+use Rattle.uplink.specs.Form.{clocksFormed, restSpare, turnFormed, formed, checked}
 use Rattle.uplink.specs.Opening.{newRecord, openingRule}
 use Rattle.uplink.specs.Arrival.{storeRule, joinRule, arrivalRule}
 use Rattle.uplink.specs.Pick.{serveRule, idleRule, chooseRule, pickRule}
@@ -44,6 +44,6 @@ unfoldable pub everyRule : Unit {0}
 unfolding allBelow sumBelow mostBelow listed costOf putQueue sharesOf widthOf ranged lengthsFormed spareQueue tabled
     queuesFormed queuesSpare joinReply field64 newQueues faultFrom tableReply listsReply tagFormed tagsFormed ahead
     leadBy
-    spareFlow joinedFlow servedFlow put clocksFormed restSpare formed checked newRecord openingRule storeRule joinRule
+    spareFlow joinedFlow servedFlow put clocksFormed restSpare turnFormed formed checked newRecord openingRule storeRule joinRule
     serveRule idleRule chooseRule
 everyRule = tt

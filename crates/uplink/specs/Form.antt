@@ -1,4 +1,5 @@
--- When a record is well formed: document 01, "The record", its five bullets in its order, with document 02 a)'s header.
+-- When a record is well formed: document 01, "The record", its five bullets in its order, with document 02 a)'s header,
+-- and then document 02 e)'s turn.
 -- The first two are the queue's side (crate `queues`, specs/Form.antt), the third the tag's side (crate `tags`).
 -- Assumes nothing.
 use mathlib.Core.Bool.{Bool, _&&_, _||_}
@@ -26,6 +27,10 @@ clocksFormed r = leb (r .link .0) (r .clock .0) && ltb (r .clock .0) clockEnd
 unfoldable pub restSpare : Record → Bool
 restSpare r = allBelow (λ f. counts (r .flows) f || spareFlow (flowAt r f)) 64
 
+-- 02 e): "the turn, 0 to 63"
+unfoldable pub turnFormed : Record → Bool
+turnFormed r = ltb (r .turn) 64
+
 -- well formed, with this memory of lengths
 unfoldable pub formed : Record → List ℕ → Bool
 formed r lengths =
@@ -34,6 +39,7 @@ formed r lengths =
     && tagsFormed (r .flows) (r .width) (r .clock .0) (tagOf r) (waitingOf r)
     && clocksFormed r
     && restSpare r
+    && turnFormed r
 
 -- refusals 1 and 2, with which every call on a record begins; then the call goes on
 unfoldable pub checked : State → Outcome → Outcome

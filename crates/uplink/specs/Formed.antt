@@ -19,7 +19,7 @@ use Rattle.tags.specs.Form.{tagFormed, tagsFormed}
 use Rattle.tags.specs.Laws.{tag-at-most}
 use Rattle.uplink.specs.Flow.{Flow, noFlow, spareFlow}
 use Rattle.uplink.specs.Record.{flowAt, tagOf, waitingOf, blank}
-use Rattle.uplink.specs.Form.{clockEnd, clocksFormed, restSpare, formed}
+use Rattle.uplink.specs.Form.{clockEnd, clocksFormed, restSpare, turnFormed, formed}
 use Rattle.uplink.specs.declared.Record.{Record}
 
 -- flow f of a well-formed record
@@ -39,8 +39,9 @@ pub record Formed (r : Record) (lengths : List ℕ) : Type 0 where
   pub link : r .link .0 ≤ r .clock .0
   pub clock : r .clock .0 < clockEnd
   pub rest : (f : ℕ) → r .flows ≤ f → f < 64 → spareFlow (flowAt r f) ≡ true
+  pub turn : r .turn < 64
 
--- the five bullets of a record, each a Bool
+-- the first three bullets of a record, each a Bool; and the five
 module _ (r : Record) (lengths : List ℕ) where
   abbrev table : Bool
   table = tabled (r .flows) (r .header) (r .width) (r .queues)
@@ -51,10 +52,14 @@ module _ (r : Record) (lengths : List ℕ) where
   abbrev tags : Bool
   tags = tagsFormed (r .flows) (r .width) (r .clock .0) (tagOf r) (waitingOf r)
 
+  abbrev bullets : Bool
+  bullets = table && queues && tags && clocksFormed r && restSpare r
+
   pub formed-out : formed r lengths ≡ true → Formed r lengths
-  unfolding formed tabled queuesFormed tagsFormed clocksFormed restSpare ranged
+  unfolding formed tabled queuesFormed tagsFormed clocksFormed restSpare turnFormed ranged
   formed-out e =
-      let parts = both-true (table && queues && tags && clocksFormed r) (restSpare r) e in
+      let whole = both-true bullets (turnFormed r) e in
+      let parts = both-true (table && queues && tags && clocksFormed r) (restSpare r) (whole .0) in
       let four = four-true table queues tags (clocksFormed r) (parts .0) in
       let first = four-true (within 1 64 (r .flows) && isHeader (r .header)) _ _ _ (four .0) in
       let sizes = both-true (within 1 64 (r .flows)) (isHeader (r .header)) (first .0) in
@@ -76,12 +81,14 @@ module _ (r : Record) (lengths : List ℕ) where
         link = leb-true _ _ (clocks .0);
         clock = ltb-true _ _ (clocks .1);
         rest = λ f h l. or-right (counts (r .flows) f) _ (allBelow-at _ _ (parts .1) f l) (le-ltb f (r .flows) h);
+        turn = ltb-true _ _ (whole .1);
       }
 
   pub formed-in : Formed r lengths → formed r lengths ≡ true
-  unfolding formed tabled queuesFormed tagsFormed clocksFormed restSpare ranged
+  unfolding formed tabled queuesFormed tagsFormed clocksFormed restSpare turnFormed ranged
   formed-in F =
-      both-of (table && queues && tags && clocksFormed r) (restSpare r)
+      both-of bullets (turnFormed r)
+      (both-of (table && queues && tags && clocksFormed r) (restSpare r)
       (four-of table queues tags (clocksFormed r)
       (four-of (within 1 64 (r .flows) && isHeader (r .header)) _ _ _
       (both-of _ _ (within-of 1 64 (r .flows) (F .some) (F .few)) (le-leb _ _ (F .header)))
@@ -92,7 +99,8 @@ module _ (r : Record) (lengths : List ℕ) where
       both-of _ _ (both-true (booked (flowAt r f .queue)) _ (F .each f h .range) .1) (F .each f h .queue))
       (allBelow-of _ _ λ f h. F .each f h .tag)
       (both-of _ _ (le-leb _ _ (F .link)) (lt-ltb _ _ (F .clock))))
-      (allBelow-of _ _ λ f l. or-either (counts (r .flows) f) _ (λ e. F .rest f (ltb-false f (r .flows) e) l))
+      (allBelow-of _ _ λ f l. or-either (counts (r .flows) f) _ (λ e. F .rest f (ltb-false f (r .flows) e) l)))
+      (lt-ltb _ _ (F .turn))
 
 -- the leap width is at most 1,126,080,000
 pub width-most : (r : Record) (lengths : List ℕ) → Formed r lengths → r .width ≤ 1126080000

@@ -12,7 +12,8 @@ use Rattle.reply.specs.State.{openedBy}
 use Rattle.uplink.specs.State.{Outcome}
 use Rattle.uplink.specs.declared.Record.{Record}
 
--- "the record with clock, link time, tags, firsts and waiting numbers 0", and the header, "which the record keeps" (02 a)
+-- "the record with clock, link time, tags, firsts and waiting numbers 0", and the header, "which the record keeps"
+-- (02 a); the turn is "0 after an opening" (02 e)
 unfoldable pub newRecord : List ℕ → List ℕ → ℕ → Record
 newRecord shares largest header =
     record {
@@ -23,6 +24,7 @@ newRecord shares largest header =
       link = linkTime 0;
       tags = tagsOf (replicate 64 0);
       queues = newQueues shares largest;
+      turn = 0;
     }
 
 -- 1, 3, 4, 5, 6

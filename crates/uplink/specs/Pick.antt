@@ -11,10 +11,10 @@ use Rattle.reply.specs.Reply.{idle, packet}
 use Rattle.queues.specs.Queue.{placeOf}
 use Rattle.queues.specs.Places.{freedOf}
 use Rattle.tags.specs.Ticks.{ticks, leaps, leapClock}
-use Rattle.tags.specs.Choice.{leadBy}
+use Rattle.tags.specs.Choice.{leadBy, turnAfter}
 use Rattle.tags.specs.declared.choice.Lead.{Lead}
 use Rattle.uplink.specs.Flow.{servedFlow, flowCost}
-use Rattle.uplink.specs.Record.{flowAt, tagOf, waitingOf, moved, put, rested, linkTime}
+use Rattle.uplink.specs.Record.{flowAt, tagOf, waitingOf, moved, turned, put, rested, linkTime}
 use Rattle.reply.specs.State.{state, outcome, demand}
 use Rattle.uplink.specs.State.{State, Outcome}
 use Rattle.uplink.specs.Form.{checked}
@@ -25,9 +25,9 @@ use Rattle.uplink.specs.declared.pick.Gone.{Gone}
 abbrev pub clockLimit : ℕ
 clockLimit = 2 ^ 62
 
--- step 2: who leads among the flows that count
+-- step 2: who leads among the flows that count, of equal tags by the turn (02 e)
 abbrev pub leadOf : Record → Lead
-leadOf r = leadBy (tagOf r) (waitingOf r) (r .flows)
+leadOf r = leadBy (r .turn) (tagOf r) (waitingOf r) (r .flows)
 
 -- step 3, at flow f: whether the clock leaps, and the clock after a leap, or as it was
 abbrev pub leapt : Record → ℕ → Bool
@@ -36,9 +36,11 @@ leapt r f = leaps (r .clock .0) (r .width) (tagOf r f)
 abbrev pub clockLeapt : Record → ℕ → ℕ
 clockLeapt r f = leapClock (r .clock .0) (r .width) (tagOf r f)
 
--- choose and leap: the state with flow f chosen
+-- choose and leap: the state with flow f chosen; the turn is "one past the last flow picked" (02 e)
 abbrev pub leaptState : State → ℕ → State
-leaptState s f = state (moved (s .held) (clockLeapt (s .held) f) (s .held .link .0)) (s .lengths) (s .handles)
+leaptState s f =
+    state (turned (moved (s .held) (clockLeapt (s .held) f) (s .held .link .0)) (turnAfter f)) (s .lengths)
+    (s .handles)
 
 -- the place, length and handle of flow f's front packet, and the length of the one behind it
 abbrev pub frontPlace : State → ℕ → ℕ

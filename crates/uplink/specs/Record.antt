@@ -35,9 +35,9 @@ tagOf r f = flowAt r f .tag .0
 abbrev pub waitingOf : Record → ℕ → ℕ
 waitingOf r f = flowAt r f .queue .waiting
 
--- the record with another clock, link time, tags and queues
-abbrev pub with : Record → ServerTicks → LinkTicks → ServerTags → Queues → Record
-with r clock link tags queues =
+-- the record with another clock, link time, tags, queues and turn
+abbrev pub with : Record → ServerTicks → LinkTicks → ServerTags → Queues → ℕ → Record
+with r clock link tags queues turn =
     record {
       flows = r .flows;
       header = r .header;
@@ -46,20 +46,25 @@ with r clock link tags queues =
       link = link;
       tags = tags;
       queues = queues;
+      turn = turn;
     }
 
 -- the record with another clock and link time
 abbrev pub moved : Record → ℕ → ℕ → Record
-moved r clock link = with r (ticks clock) (linkTime link) (r .tags) (r .queues)
+moved r clock link = with r (ticks clock) (linkTime link) (r .tags) (r .queues) (r .turn)
+
+-- the record with another turn
+abbrev pub turned : Record → ℕ → Record
+turned r turn = with r (r .clock) (r .link) (r .tags) (r .queues) turn
 
 -- the record with flow f put anew
 unfoldable pub put : Record → ℕ → Flow → Record
 put r f w =
-    with r (r .clock) (r .link) (tagsOf (set (r .tags .0) f (w .tag .0))) (putQueue (r .queues) f (w .queue))
+    with r (r .clock) (r .link) (tagsOf (set (r .tags .0) f (w .tag .0))) (putQueue (r .queues) f (w .queue)) (r .turn)
 
--- "clock, link time and all tags become 0; all else stays"
+-- "clock, link time and all tags become 0; all else stays", and the turn is "0 after .. Idle" (02 e)
 abbrev pub rested : Record → Record
-rested r = with r (ticks 0) (linkTime 0) (tagsOf (replicate 64 0)) (r .queues)
+rested r = with r (ticks 0) (linkTime 0) (tagsOf (replicate 64 0)) (r .queues) 0
 
 -- "The blank record is all zeros."
 abbrev pub blank : Record
@@ -72,11 +77,12 @@ blank =
       link = linkTime 0;
       tags = tagsOf (replicate 64 0);
       queues = blankQueues;
+      turn = 0;
     }
 
 -- the record whose parts are lent one by one
-abbrev pub recordOf : ℕ → ℕ → ℕ → ℕ → ℕ → List ℕ → List ℕ → List ℕ → List ℕ → List ℕ → Record
-recordOf flows header width clock link tags share largest first waiting =
+abbrev pub recordOf : ℕ → ℕ → ℕ → ℕ → ℕ → List ℕ → List ℕ → List ℕ → List ℕ → List ℕ → ℕ → Record
+recordOf flows header width clock link tags share largest first waiting turn =
     record {
       flows = flows;
       header = header;
@@ -85,6 +91,7 @@ recordOf flows header width clock link tags share largest first waiting =
       link = linkTime link;
       tags = tagsOf tags;
       queues = queuesOf share largest first waiting;
+      turn = turn;
     }
 
 -- the record has its 64 rows

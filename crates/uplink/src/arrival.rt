@@ -38,6 +38,7 @@ impl Record {
             &self.queues.largest,
             &self.queues.first,
             &self.queues.waiting,
+            self.turn,
             lengths,
         ) {
             reply = ArrivalReply::Refused(Refusal::Form);

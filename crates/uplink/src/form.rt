@@ -24,13 +24,17 @@ pub fn is_formed<'a>(
     largest: &'a [u16; 64],
     first: &'a [u16; 64],
     waiting: &'a [u16; 64],
+    turn: u64,
     lengths: &[u16],
 ) -> bool
     requires { ⌜ (length (now lengths) ≡ 4096) × (now table ≡ costs) ⌝ }
     ensures { λ r. ⌜ r ≡ formed (recordOf flows header width (clock .0) (link .0) (now (tags .entry))
-        (now (share .entry)) (now (largest .entry)) (now (first .entry)) (now (waiting .entry)))
+        (now (share .entry)) (now (largest .entry)) (now (first .entry)) (now (waiting .entry)) turn)
         (now (lengths .entry)) ⌝ }
 {
+    if 64 <= turn {
+        return false;
+    }
     if clock.0 < link.0 {
         return false;
     }

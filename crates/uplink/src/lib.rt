@@ -1,5 +1,5 @@
 // The uplink scheduler: which waiting packet a radio link sends next, by Leap Forward Virtual Clock. Sources:
-// document 01 and document 02 a); source 000, section 3.
+// document 01 and document 02 a) and e); source 000, section 3.
 // Three calls, `Record::opening`, `arrival` and `pick`, take any input at all and end with a reply or one of ten
 // numbered refusals.
 // The waiting packets are in two lent memories of 4,096 places, one of lengths (bytes) and one of handles; flow f
@@ -40,6 +40,9 @@ pub struct Record {
     pub tags: ServerTags,
     // What each flow has booked, and where its packets wait.
     pub queues: Queues,
+    // The turn, 0 to 63: one past the last flow picked, and 0 after an opening or Idle. Of equal tags the first flow
+    // from here on is picked, counting round.
+    pub turn: u64,
 }
 
 pub enum PickReply {
@@ -89,6 +92,7 @@ impl Record {
             link: LinkTicks(0),
             tags: ServerTags([0; 64]),
             queues: Queues::blank(),
+            turn: 0,
         }
     }
 }

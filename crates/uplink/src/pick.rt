@@ -80,16 +80,23 @@ impl Record {
             &self.queues.largest,
             &self.queues.first,
             &self.queues.waiting,
+            self.turn,
             lengths,
         ) {
             reply = PickReply::Refused(Refusal::Form);
         } else {
-            let lead = tags::choose(self.flows as u32, &self.tags.0, &self.queues.waiting);
+            let lead = tags::choose(
+                self.turn,
+                self.flows as u32,
+                &self.tags.0,
+                &self.queues.waiting,
+            );
             if !lead.waits {
                 self.clock.0 = 0;
                 self.link.0 = 0;
                 let none = ServerTags([0; 64]);
                 self.tags = none;
+                self.turn = 0;
             } else if CLOCK_LIMIT <= self.clock.0 {
                 reply = PickReply::Refused(Refusal::Clock);
             } else {
@@ -97,6 +104,7 @@ impl Record {
                 let tag = lead.tag;
                 let header = self.header;
                 let leap = tags::leap(self.clock, self.width, tag);
+                self.turn = tags::turn_after(flow);
                 let first = queues::go_on(&mut self.queues.first, flow);
                 let waiting = queues::leave(&mut self.queues.waiting, flow);
                 let gone = advance(header, flow, first, leap.clock, self.link, lengths, handles);

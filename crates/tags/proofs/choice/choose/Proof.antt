@@ -3,7 +3,7 @@
 -- Assumes nothing.
 use mathlib.Core.Path.{_≡_, refl, ap, ap₂, _∙_}
 use mathlib.Core.Logic.{⊎-elim}
-use Prim.Native.Nat.{ℕ, _≤_, _-_}
+use Prim.Native.Nat.{ℕ, _≤_, _<_, _-_}
 use native.Mathlib.Omega.{arith}
 use lib.ListN.{getD}
 use borrow.Author.Needs.{needs}
@@ -13,18 +13,17 @@ use Rattle.tags.proofs.choice.choose.Statement.{statement}
 use Rattle.tags.proofs.choice.choose.Tie as tie
 
 abbrev Inv-loop : tie.InvT-loop
-Inv-loop flows tags waiting end flow₀ least₀ at₀ flow least at =
+Inv-loop turn flows tags waiting from end flow₀ least₀ at₀ flow least at =
     (at ≤ flows)
-    × (leadAs flow least ≡ leadBy (λ g. getD tags g 0) (λ g. getD waiting g 0) at)
+    × (leadAs flow least ≡ leadBy turn (λ g. getD tags g 0) (λ g. getD waiting g 0) at)
     × (flow ≤ 64)
-    × (least ≤ noTag)
 
 abbrev μ-loop : tie.MeasureT-loop
-μ-loop flows tags waiting end flow₀ least₀ at₀ flow least at = flows - at
+μ-loop turn flows tags waiting from end flow₀ least₀ at₀ flow least at = flows - at
 
 loop-holds : tie.Need-loop-holds Inv-loop μ-loop
 unfolding leadBy
-loop-holds c = (search needs, refl, search needs, search needs)
+loop-holds c = (search needs, refl, search needs)
 
 mul-key-of : tie.Need-mul-key-of Inv-loop μ-loop
 mul-key-of c = search needs
@@ -47,33 +46,40 @@ add-at c = search needs
 loop-less : tie.Need-loop-less Inv-loop μ-loop
 loop-less c = search needs
 
+overtakes-requires : tie.Need-overtakes-requires Inv-loop μ-loop
+overtakes-requires c κs = search needs
+
 loop-again : tie.Need-loop-again Inv-loop μ-loop
 loop-again c =
-    let keyed = c .before in
+    let over = c .before in
+    let keyed = over .before in
     let inside = keyed .before .before .before in
     let turn = inside .before in
     let args = turn .before .args in
-    let low = turn .before .pre .1 .each (turn .loop .at) (inside .loop-test .taken) in
+    let held = turn .loop in
+    let counts = inside .loop-test .taken in
+    let few : held .at < 64 = omega (arith, turn .before .pre .1) in
+    let low : (f : ℕ) → f ≤ held .at → getD (args .tags .now) f 0 < noTag =
+    λ f h. turn .before .pre .2 .each f (omega (arith, counts)) in
     let tag : ℕ → ℕ = λ g. getD (args .tags .now) g 0 in
     let waits : ℕ → ℕ = λ g. getD (args .waiting .now) g 0 in (
       omega arith,
       ⊎-elim
-          (λ w. ap₂ leadAs (w .1) (w .2) ∙ lead-moves tag waits (turn .loop .at) (turn .loop .flow) (turn .loop .least)
-          (keyed .key-of .result) (turn .loop .inv .1) (keyed .key-of .ensures) low (omega arith) (omega arith)
-          (w .0 .taken))
-          (λ w. ap₂ leadAs (w .1) (w .2) ∙ lead-stays tag waits (turn .loop .at) (turn .loop .flow) (turn .loop .least)
-          (keyed .key-of .result) (turn .loop .inv .1) (keyed .key-of .ensures) low (omega arith) (omega arith)
-          (w .0 .left))
+          (λ w. ap₂ leadAs (w .1) (w .2) ∙ lead-moves (args .turn) tag waits (held .at) (held .flow) (held .least)
+          (keyed .key-of .result) (held .inv .1) (keyed .key-of .ensures) low (turn .before .pre .0) few
+          _ (over .overtakes .ensures) (w .0 .taken))
+          (λ w. ap₂ leadAs (w .1) (w .2) ∙ lead-stays (args .turn) tag waits (held .at) (held .flow) (held .least)
+          (keyed .key-of .result) (held .inv .1) (keyed .key-of .ensures) low (turn .before .pre .0) few
+          _ (over .overtakes .ensures) (w .0 .left))
           (c .if1 .came),
       ⊎-elim (λ w. omega (arith, w .1)) (λ w. omega (arith, w .1)) (c .if1 .came),
-      ⊎-elim (λ w. let h = w .0 .taken in omega (arith, w .2)) (λ w. omega (arith, w .2)) (c .if1 .came),
     )
 
-cast-t19 : tie.Need-cast-t19 Inv-loop μ-loop
-cast-t19 c = search needs
+cast-number : tie.Need-cast-number Inv-loop μ-loop
+cast-number c = search needs
 
 returns : tie.Need-returns Inv-loop μ-loop
-returns c = c .before .loop .inv .1 ∙ ap (leadBy _ _) (omega arith)
+returns c = c .before .loop .inv .1 ∙ ap (leadBy _ _ _) (omega arith)
 
 pub choose-spec : {M : Type 1} → statement M
 choose-spec =
@@ -87,8 +93,9 @@ choose-spec =
     mul-key-of-2
     element-copy-out-key-of-2
     key-of-requires
+    overtakes-requires
     add-at
     loop-less
     loop-again
-    cast-t19
+    cast-number
     returns)

@@ -21,6 +21,7 @@ returns c =
       link = linkTime 0;
       tags = tagsOf (replicate 64 0);
       queues = queues;
+      turn = 0;
     }) (c .blank .ensures)
 
 pub blank-spec : {M : Type 1} → statement M

@@ -18,16 +18,19 @@ lent-at c = c .before .before .before .before .before .before .before .before .b
 abbrev begun : tie.Else1 → tie.Start
 begun c = c .before .before .before .before .before .before .before
 
--- from where the front packet has gone: to where one fewer waits, to where the ring has gone on, to where the clock has
--- leapt or not, and to where it was known that one goes
+-- from where the front packet has gone: to where one fewer waits, to where the ring has gone on, to where the turn has
+-- moved, to where the clock has leapt or not, and to where it was known that one goes
 abbrev left-at : tie.After-advance → tie.After-leave
 left-at c = c .before .before .before .before
 
 abbrev on-at : tie.After-advance → tie.After-go-on
 on-at c = left-at c .before .before
 
+abbrev turned-at : tie.After-advance → tie.After-turn-after
+turned-at c = on-at c .before .before
+
 abbrev leapt-at : tie.After-advance → tie.After-leap
-leapt-at c = on-at c .before .before
+leapt-at c = turned-at c .before
 
 abbrev gone-at : tie.After-advance → tie.Else4
 gone-at c = leapt-at c .before .before .before
@@ -85,17 +88,22 @@ choose-requires c κs =
 leap-requires : tie.Need-leap-requires
 leap-requires c κs = search needs
 
+turn-after-requires : tie.Need-turn-after-requires
+turn-after-requires c κs = search needs
+
 go-on-requires : tie.Need-go-on-requires
-go-on-requires c κs = let known = ready (c .before .before .before .before) in (known .queue .flow, known .queue .first-below)
+go-on-requires c κs = let known = ready (c .before .before .before .before .before) in (known .queue .flow, known .queue .first-below)
 
 leave-requires : tie.Need-leave-requires
 leave-requires c κs =
-    let known = ready (c .before .before .before .before .before .before) in (known .queue .flow, known .queue .waits)
+    let known = ready (c .before .before .before .before .before .before .before) in
+    (known .queue .flow, known .queue .waits)
 
 advance-requires : tie.Need-advance-requires
 advance-requires c κs =
-    let known = ready (c .before .before .before .before .before .before .before .before .before .before) in
-    let leap = leap-most _ _ _ _ (c .before .before .before .before .before .before .before .leap .ensures) in (
+    let turned = c .before .before .before .before .before .before .before in
+    let known = ready (turned .before .before .before .before) in
+    let leap = leap-most _ _ _ _ (turned .before .leap .ensures) in (
       (known .queue .flow, known .queue .lengths-lent, known .queue .handles-lent),
       (omega (arith, leap, known .clock, known .width), omega (arith, known .link)),
     )
@@ -215,7 +223,8 @@ returns-5 c =
     picked-more (args .t1) (args .lengths .now) (args .handles .now) _ (passed .before .are-lent .ensures)
     (passed .if1 .left) _
     (formed .before .is-formed .ensures) (formed .if2 .left) _ (chosen .choose .ensures)
-    (soon .before .if3 .left) (soon .if4 .left) _ _ _ _ _ _ _ _ (leapt-at gone .leap .ensures)
+    (soon .before .if3 .left) (soon .if4 .left) _ _ _ _ _ _ _ _ _ (turned-at gone .turn-after .ensures)
+    (leapt-at gone .leap .ensures)
     (on-at gone .go-on .ensures .0)
     (left-at gone .leave .ensures .0) (gone .advance .ensures) (on-at gone .go-on .ensures .1)
     (left-at gone .leave .ensures .1) _ _ _ _
@@ -239,7 +248,8 @@ returns-6 c =
     picked-last (args .t1) (args .lengths .now) (args .handles .now) _ (passed .before .are-lent .ensures)
     (passed .if1 .left) _
     (formed .before .is-formed .ensures) (formed .if2 .left) _ (chosen .choose .ensures)
-    (soon .before .if3 .left) (soon .if4 .left) _ _ _ _ _ _ _ _ (leapt-at gone .leap .ensures)
+    (soon .before .if3 .left) (soon .if4 .left) _ _ _ _ _ _ _ _ _ (turned-at gone .turn-after .ensures)
+    (leapt-at gone .leap .ensures)
     (on-at gone .go-on .ensures .0)
     (left-at gone .leave .ensures .0) (gone .advance .ensures) (on-at gone .go-on .ensures .1)
     (left-at gone .leave .ensures .1)
@@ -255,6 +265,7 @@ pick-spec =
     cast-choose
     choose-requires
     leap-requires
+    turn-after-requires
     go-on-requires
     leave-requires
     advance-requires
