@@ -35,7 +35,7 @@ pub stored-as : (r : Record) (lengths handles : List ℕ) (f n handle first wait
     → (waiting ≡ waitingOf r f) × (waits ≡ set (r .queues .waiting) f (waiting + 1))
     → (ls ≡ set lengths (placeOf f first waiting) n) × (hs ≡ set handles (placeOf f first waiting) handle)
     → next ≡ tagged (with r (r .sum) (r .clock) (r .link) (r .tags)
-    (queuesOf (r .queues .share) (r .queues .largest) (r .queues .first) waits)) f
+    (queuesOf (r .queues .share) (r .queues .largest) (r .queues .first) waits) (r .turn)) f
     (cond (eqb waiting 0) (frontTag (tagOf r f) (r .clock .0) (costTo (queueOf r f)) (chargeOf (r .header) n))
     (tagOf r f))
     → outcome (done []) next ls hs ≡ storeRule (state r lengths handles) f n handle

@@ -34,11 +34,12 @@ too-late r lengths h = go (formed r lengths) refl
 pub as-raised : (r : Record) (lengths tags : List ℕ) (b : Bool)
     → tags ≡ listed (λ f. raised (r .sum .0) (tagOf r f)) 0 64
     → b ≡ first.formed (recordOf (r .flows) (r .header) (r .width) (r .clock .0 + r .sum .0) (r .link .0) tags
-    (r .queues .share) (r .queues .largest) (r .queues .first) (r .queues .waiting)) lengths
+    (r .queues .share) (r .queues .largest) (r .queues .first) (r .queues .waiting) (r .turn)) lengths
     → b ≡ formed r lengths
 as-raised r lengths tags b t e =
     e ∙ ap (λ raisedTags. first.formed (recordOf (r .flows) (r .header) (r .width) (r .clock .0 + r .sum .0)
-    (r .link .0) raisedTags (r .queues .share) (r .queues .largest) (r .queues .first) (r .queues .waiting)) lengths) t
+    (r .link .0) raisedTags (r .queues .share) (r .queues .largest) (r .queues .first) (r .queues .waiting)
+    (r .turn)) lengths) t
 
 -- past refusals 1 and 2: both memories are lent, the record is well formed, and the call goes on
 pub record Passed (r : Record) (lengths handles : List ℕ) : Type 0 where

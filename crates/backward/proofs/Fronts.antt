@@ -26,7 +26,8 @@ leapt-not r b h = rw (not-true b h)
 -- it leaps
 pub leapt-so : (r : Record) (b : Bool) (tags : List ℤ) → not b ≡ false
     → tags ≡ listed (λ f. signs.lowered (r .width) (tagOf r f)) 0 64
-    → with r (ticks (r .sum .0 + r .width)) (r .clock) (r .link) (signedTags tags) (r .queues) ≡ cond b (lowered r) r
+    → with r (ticks (r .sum .0 + r .width)) (r .clock) (r .link) (signedTags tags) (r .queues) (r .turn)
+    ≡ cond b (lowered r) r
 unfolding lowered
 leapt-so r b tags h e = rw (not-false b h, e)
 
@@ -38,7 +39,7 @@ fronted-not r f tag b h = rw (not-true b h, set-getD (r .tags .0) f (pos 0))
 pub fronted-so : (r : Record) (f n share cost : ℕ) (b : Bool) (tag next : SignedTicks) (tags : List ℤ) → not b ≡ false
     → share ≡ queueOf r f .share → cost ≡ costOf share → tag .0 ≡ tagOf r f
     → next .0 ≡ frontTag (tag .0) (r .clock .0) cost (chargeOf (r .header) n) → tags ≡ set (r .tags .0) f (next .0)
-    → with r (r .sum) (r .clock) (r .link) (signedTags tags) (r .queues)
+    → with r (r .sum) (r .clock) (r .link) (signedTags tags) (r .queues) (r .turn)
     ≡ tagged r f (cond b (frontTag (tagOf r f) (r .clock .0) (costTo (queueOf r f)) (chargeOf (r .header) n))
     (tagOf r f))
 fronted-so r f n share cost b tag next tags h s c t m p = rw (not-false b h, p, m, c, s, t)

@@ -18,7 +18,7 @@ use Rattle.queues.specs.Queue.{placeOf, costTo}
 use Rattle.queues.specs.Queues.{queuesOf, put-left}
 use Rattle.queues.specs.Ready.{Servable}
 use Rattle.tags.specs.Ticks.{leapRule}
-use Rattle.tags.specs.Choice.{Smallest, leadBy}
+use Rattle.tags.specs.Choice.{Smallest, turnAfter, leadBy}
 use Rattle.tags.specs.Chosen.{leads, leads-same, Tagged}
 use Rattle.tags.specs.declared.ServerTicks.{ServerTicks}
 use Rattle.tags.specs.declared.choice.Lead.{Lead}
@@ -30,11 +30,11 @@ use Rattle.signs.specs.declared.SignedTicks.{SignedTicks}
 use Rattle.uplink.specs.Pick.{clockLimit, goneOf}
 use Rattle.uplink.specs.Ready.{leaves}
 use Rattle.uplink.specs.declared.pick.Gone.{Gone}
-use Rattle.backward.specs.Record.{tagOf, queueOf, waitingOf, with, tagged, put, lowered, rested}
+use Rattle.backward.specs.Record.{tagOf, queueOf, waitingOf, with, turned, tagged, put, lowered, rested}
 use Rattle.backward.specs.Raised.{raisedRecord}
 use Rattle.backward.specs.State.{Outcome}
 use Rattle.backward.specs.Formed.{lowered-tag, sum-fits, all-near}
-use Rattle.backward.specs.Pick.{leadOf, leapt, leaptRecord, Served, served, servedRule, serveRule}
+use Rattle.backward.specs.Pick.{leadOf, leapt, chosenRecord, leaptRecord, Served, served, servedRule, serveRule}
 use Rattle.backward.specs.Pick.{idleRule, chooseRule, pickRule}
 use Rattle.backward.specs.Ready.{Fronting, Going, Soon}
 use Rattle.backward.specs.declared.Record.{Record}
@@ -49,7 +49,7 @@ module _ (r : Record) (lengths handles : List ℕ) (f : ℕ) (first waiting : �
   abbrev pub leftRecord : Record
   leftRecord =
       with r (r .sum) (gone .clock) (gone .link) (r .tags)
-      (queuesOf (r .queues .share) (r .queues .largest) firsts waits)
+      (queuesOf (r .queues .share) (r .queues .largest) firsts waits) (r .turn)
 
   -- its flow can be tagged: the clock is no further than one packet on
   pub going-front : (table : List ℕ) → Servable (r .queues) (r .header) f table lengths handles → Going r f
@@ -93,15 +93,16 @@ leapt-stays r false = (refl, refl, refl, refl)
 pub soon-near : (r : Record) (f : ℕ) → f < 64 → Soon r f → mag (tagOf (leaptRecord r f) f) < reach
 soon-near r f few S = go (leapt r f) refl
   where
-    go : (b : Bool) → leapt r f ≡ b → mag (tagOf (cond b (lowered r) r) f) < reach
+    go : (b : Bool) → leapt r f ≡ b
+        → mag (tagOf (cond b (lowered (chosenRecord r f)) (chosenRecord r f)) f) < reach
     go false e = S .tags .each f few
     go true e =
         let far : r .clock .0 + 2 * r .width < natural (tagOf r f) = ltb-true _ _ e in
-        rw (lowered-tag r f few) (lowered-near (r .width) (tagOf r f) (omega (arith, far)) (S .tags .each f few))
+        rw (lowered-tag (chosenRecord r f) f few) (lowered-near (r .width) (tagOf r f) (omega (arith, far)) (S .tags .each f few))
 
 module _ (r : Record) (f : ℕ) (tag : SignedTicks) (ahead : ServerTicks) (leap : Leapt) (next : Record)
     (t : tag .0 ≡ tagOf r f) (n : ahead .0 ≡ natural (tag .0)) (l : leap ≡ leapRule (r .clock) (r .width) ahead)
-    (e : next ≡ cond (leap .leapt) (lowered r) r) where
+    (turn : ℕ) (on : turn ≡ turnAfter f) (e : next ≡ cond (leap .leapt) (lowered (turned r turn)) (turned r turn)) where
   -- the leap is the rule's
   leaps-as : leap .leapt ≡ leapt r f
   unfolding leapRule
@@ -109,12 +110,12 @@ module _ (r : Record) (f : ℕ) (tag : SignedTicks) (ahead : ServerTicks) (leap 
 
   -- and so is the record after it
   pub leapt-as : next ≡ leaptRecord r f
-  leapt-as = rw leaps-as at e
+  leapt-as = rw (leaps-as, on) at e
 
   -- what was ready before the leap is ready after it
   pub soon-going : (table lengths handles : List ℕ) → Servable (r .queues) (r .header) f table lengths handles
       → Soon r f → Servable (next .queues) (next .header) f table lengths handles × Going next f
-  soon-going table lengths handles S D = let same = leapt-stays r (leapt r f) in
+  soon-going table lengths handles S D = let same = leapt-stays (chosenRecord r f) (leapt r f) in
       rw (leapt-as, same .0, same .1) (
         S,
         record {
@@ -145,8 +146,9 @@ module _ (r : Record) (lengths handles : List ℕ) (P : Passed r lengths handles
   key-at f h = rw k (listed-here (λ g. natural (tagOf r g)) 64 f 0 h)
 
   -- none of them stands for none
-  pub keyed : (r .flows ≤ 64) × Tagged keys (r .flows)
+  pub keyed : (r .turn < 64) × (r .flows ≤ 64) × Tagged keys (r .flows)
   keyed = (
+    P .form .turn,
     P .form .few,
     record {
       each = λ f h. let few : f < 64 = omega (arith, h, P .form .few) in
@@ -159,10 +161,10 @@ module _ (r : Record) (lengths handles : List ℕ) (P : Passed r lengths handles
     },
   )
 
-  module _ (lead : Lead) (l : lead ≡ leadBy (λ f. getD keys f 0) (waitingOf r) (r .flows)) where
+  module _ (lead : Lead) (l : lead ≡ leadBy (r .turn) (λ f. getD keys f 0) (waitingOf r) (r .flows)) where
     -- the leader by the keys is the leader by the tags
     led : leadOf r ≡ lead
-    led = sym (l ∙ leads-same (λ f. natural (tagOf r f)) (λ f. getD keys f 0) (waitingOf r) (r .flows)
+    led = sym (l ∙ leads-same (r .turn) (λ f. natural (tagOf r f)) (λ f. getD keys f 0) (waitingOf r) (r .flows)
         (λ f h. key-at f (omega (arith, h, P .form .few))))
 
     -- step 1
@@ -181,8 +183,8 @@ module _ (r : Record) (lengths handles : List ℕ) (P : Passed r lengths handles
 
       -- the leader waits, and has the smallest tag
       chosen : Smallest (λ f. natural (tagOf r f)) (waitingOf r) (r .flows) (lead .flow)
-      chosen = (rw led at (leads (λ f. natural (tagOf r f)) (waitingOf r) (r .flows))) .smallest
-          (not-false (lead .waits) w)
+      chosen = (rw led at (leads (r .turn) (λ f. natural (tagOf r f)) (waitingOf r) (r .flows))) .first
+          (not-false (lead .waits) w) .smallest
 
       module _ (soon : r .clock .0 + r .sum .0 < clockLimit) where
         -- what the checks leave of queue and tag

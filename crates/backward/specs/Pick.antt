@@ -11,27 +11,31 @@ use Rattle.reply.specs.State.{state, outcome, demand}
 use Rattle.queues.specs.Queue.{placeOf, costTo, left}
 use Rattle.queues.specs.Places.{freedOf}
 use Rattle.tags.specs.Ticks.{leaps}
-use Rattle.tags.specs.Choice.{leadBy}
+use Rattle.tags.specs.Choice.{leadBy, turnAfter}
 use Rattle.tags.specs.declared.choice.Lead.{Lead}
 use Rattle.signs.specs.Tags.{natural, frontTag}
 use Rattle.uplink.specs.Pick.{clockLimit}
-use Rattle.backward.specs.Record.{tagOf, queueOf, waitingOf, put, moved, lowered, rested}
+use Rattle.backward.specs.Record.{tagOf, queueOf, waitingOf, put, moved, turned, lowered, rested}
 use Rattle.backward.specs.State.{State, Outcome}
 use Rattle.backward.specs.Form.{checked}
 use Rattle.backward.specs.declared.Record.{Record}
 
--- step 2: who leads among the flows that count. The tag of a flow that waits is no less than the clock, so it is a
--- natural number
+-- step 2: who leads among the flows that count, of equal tags by the turn (02 e). The tag of a flow that waits is no
+-- less than the clock, so it is a natural number
 abbrev pub leadOf : Record → Lead
-leadOf r = leadBy (λ f. natural (tagOf r f)) (waitingOf r) (r .flows)
+leadOf r = leadBy (r .turn) (λ f. natural (tagOf r f)) (waitingOf r) (r .flows)
 
 -- step 3, at flow f: "If T is greater than clock + 2Δ"
 abbrev pub leapt : Record → ℕ → Bool
 leapt r f = leaps (r .clock .0) (r .width) (natural (tagOf r f))
 
--- choose and leap: the record with flow f chosen
+-- choose and leap: the record with flow f chosen, the turn being "one past the last flow picked" (02 e), and after the
+-- leap or without one
+abbrev pub chosenRecord : Record → ℕ → Record
+chosenRecord r f = turned r (turnAfter f)
+
 abbrev pub leaptRecord : Record → ℕ → Record
-leaptRecord r f = cond (leapt r f) (lowered r) r
+leaptRecord r f = cond (leapt r f) (lowered (chosenRecord r f)) (chosenRecord r f)
 
 -- the packet that goes, and what is left when it has gone
 pub record Served : Type 0 where

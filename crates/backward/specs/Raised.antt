@@ -20,4 +20,5 @@ raisedRecord r =
       link = r .link;
       tags = tagsOf (listed (λ f. raised (r .sum .0) (tagOf r f)) 0 64);
       queues = r .queues;
+      turn = r .turn;
     }

@@ -31,9 +31,9 @@ queueOf r f = queueAt (r .queues) f
 abbrev pub waitingOf : Record → ℕ → ℕ
 waitingOf r f = queueOf r f .waiting
 
--- the record with another sum, clock, link time, tags and queues
-abbrev pub with : Record → ServerTicks → ServerTicks → LinkTicks → SignedTags → Queues → Record
-with r sum clock link tags queues =
+-- the record with another sum, clock, link time, tags, queues and turn
+abbrev pub with : Record → ServerTicks → ServerTicks → LinkTicks → SignedTags → Queues → ℕ → Record
+with r sum clock link tags queues turn =
     record {
       sum = sum;
       flows = r .flows;
@@ -43,30 +43,36 @@ with r sum clock link tags queues =
       link = link;
       tags = tags;
       queues = queues;
+      turn = turn;
     }
 
 -- the record with flow f's tag and queue put anew
 unfoldable pub put : Record → ℕ → ℤ → Queue → Record
 put r f tag queue =
     with r (r .sum) (r .clock) (r .link) (signedTags (set (r .tags .0) f tag)) (putQueue (r .queues) f queue)
+    (r .turn)
 
 -- the record with another tag for flow f
 abbrev pub tagged : Record → ℕ → ℤ → Record
-tagged r f tag = with r (r .sum) (r .clock) (r .link) (signedTags (set (r .tags .0) f tag)) (r .queues)
+tagged r f tag = with r (r .sum) (r .clock) (r .link) (signedTags (set (r .tags .0) f tag)) (r .queues) (r .turn)
 
 -- the record with another clock and link time
 abbrev pub moved : Record → ℕ → ℕ → Record
-moved r clock link = with r (r .sum) (ticks clock) (first.linkTime link) (r .tags) (r .queues)
+moved r clock link = with r (r .sum) (ticks clock) (first.linkTime link) (r .tags) (r .queues) (r .turn)
+
+-- the record with another turn
+abbrev pub turned : Record → ℕ → Record
+turned r turn = with r (r .sum) (r .clock) (r .link) (r .tags) (r .queues) turn
 
 -- "the clock stays and every tag goes down by Δ": "all 64 go down", and "It keeps the sum of the widths leapt"
 unfoldable pub lowered : Record → Record
 lowered r =
     with r (ticks (r .sum .0 + r .width)) (r .clock) (r .link)
-    (signedTags (listed (λ f. signs.lowered (r .width) (tagOf r f)) 0 64)) (r .queues)
+    (signedTags (listed (λ f. signs.lowered (r .width) (tagOf r f)) 0 64)) (r .queues) (r .turn)
 
--- "clock, link time and all tags become 0; all else stays", and the sum is "0 again at Idle"
+-- "clock, link time and all tags become 0; all else stays"; the sum is "0 again at Idle", and so is the turn (02 e)
 abbrev pub rested : Record → Record
-rested r = with r (ticks 0) (ticks 0) (first.linkTime 0) (signedTags (replicate 64 (pos 0))) (r .queues)
+rested r = with r (ticks 0) (ticks 0) (first.linkTime 0) (signedTags (replicate 64 (pos 0))) (r .queues) 0
 
 -- the first engine's record before anything was tagged, as this engine's: nothing has leapt
 abbrev pub unleapt : forward.Record → Record
@@ -80,6 +86,7 @@ unleapt r =
       link = r .link;
       tags = signedTags (replicate 64 (pos 0));
       queues = r .queues;
+      turn = r .turn;
     }
 
 -- "The blank record is all zeros."

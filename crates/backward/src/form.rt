@@ -23,7 +23,8 @@ pub(crate) fn is_formed(table: &[u32; 1000], r: Record, lengths: &[u16]) -> bool
     if CLOCK_END - sum.0 <= bare.0 {
         return false;
     }
-    let clock = ServerTicks(bare.0 + sum.0);
+    let together = bare.0 + sum.0;
+    let clock = ServerTicks(together);
     let tags = signs::raised_tags(&r.tags.0, sum);
     uplink::is_formed(
         table,
@@ -37,6 +38,7 @@ pub(crate) fn is_formed(table: &[u32; 1000], r: Record, lengths: &[u16]) -> bool
         &r.queues.largest,
         &r.queues.first,
         &r.queues.waiting,
+        r.turn,
         lengths,
     )
 }

@@ -31,6 +31,8 @@ pub struct Record {
     pub tags: signs::SignedTags,
     // What each flow has booked, and where its packets wait.
     pub queues: queues::Queues,
+    // The turn, 0 to 63: one past the last flow picked, and 0 after an opening or Idle.
+    pub turn: u64,
 }
 
 // The record that an opening made, or the blank one, with the reply.

@@ -26,6 +26,7 @@ pub(crate) fn unleapt(r: uplink::Record) -> Record
         link,
         tags: SignedTags([0; 64]),
         queues,
+        turn: r.turn,
     }
 }
 

@@ -29,7 +29,7 @@ pub struct Served {
 }
 
 impl Record {
-    // Step 1: nothing waits. Sum, clock, link time and all tags become 0.
+    // Step 1: nothing waits. Sum, clock, link time, all tags and the turn become 0.
     fn rested(mut self) -> Record
         ensures { λ r. ⌜ r ≡ rested self ⌝ }
     {
@@ -38,6 +38,7 @@ impl Record {
         self.link.0 = 0;
         let none = SignedTags([0; 64]);
         self.tags = none;
+        self.turn = 0;
         self
     }
 
@@ -94,7 +95,7 @@ impl Record {
 
     // Steps 3 to 5 at this flow: choose and leap, then advance and free.
     fn sent(
-        self,
+        mut self,
         table: &[u32; 1000],
         flow: u32,
         lengths: &mut [u16],
@@ -111,6 +112,7 @@ impl Record {
             signs::natural(signs::tag_at(&self.tags.0, flow)),
         );
         let leapt = leap.leapt;
+        self.turn = tags::turn_after(flow);
         let next = self.leapt(leapt);
         let tag = signs::natural(signs::tag_at(&next.tags.0, flow));
         let served = next.served(table, flow, lengths, handles);
@@ -146,7 +148,7 @@ impl Record {
             };
         }
         let keys = signs::naturals(&self.tags.0);
-        let lead = tags::choose(self.flows as u32, &keys, &self.queues.waiting);
+        let lead = tags::choose(self.turn, self.flows as u32, &keys, &self.queues.waiting);
         if !lead.waits {
             let next = self.rested();
             return Picked {

@@ -5,9 +5,12 @@ use Rattle.backward.proofs.Picking.{soon-going, sent-as}
 use Rattle.backward.proofs.Record.sent.Statement.{statement}
 use Rattle.backward.proofs.Record.sent.Tie as tie
 
--- from where the leap is taken or not to where it was asked, to where the tag was read, and to the begin
+-- from where the leap is taken or not to where the turn has moved, to where the leap was asked, and to the begin
+abbrev turned-at : tie.After-leapt → tie.After-turn-after
+turned-at c = c .before
+
 abbrev asked-at : tie.After-leapt → tie.After-leap
-asked-at c = c .before
+asked-at c = turned-at c .before
 
 abbrev begun : tie.After-leapt → tie.Start
 begun c = asked-at c .before .before .before .before .before .before .before .before
@@ -20,6 +23,9 @@ natural-requires c κs = search needs
 
 leap-requires : tie.Need-leap-requires
 leap-requires c κs = search needs
+
+turn-after-requires : tie.Need-turn-after-requires
+turn-after-requires c κs = search needs
 
 leapt-requires : tie.Need-leapt-requires
 leapt-requires c κs = search needs
@@ -36,7 +42,8 @@ served-requires c κs =
     let start = begun leapt in
     let args = start .args in
     soon-going (args .t1) (args .flow) _ _ _ _ (asked-at leapt .before .before .tag-at .ensures)
-    (asked-at leapt .before .natural .ensures) (asked-at leapt .leap .ensures) (leapt .leapt .ensures) _
+    (asked-at leapt .before .natural .ensures) (asked-at leapt .leap .ensures) _
+    (turned-at leapt .turn-after .ensures) (leapt .leapt .ensures) _
     (args .lengths .now) (args .handles .now) (start .pre .0) (start .pre .1)
 
 same-length : tie.Need-same-length
@@ -52,7 +59,8 @@ returns c =
     let leapt = told .before .before .before .before in
     let args = begun leapt .args in
     sent-as (args .t1) (args .flow) _ _ _ _ (asked-at leapt .before .before .tag-at .ensures)
-    (asked-at leapt .before .natural .ensures) (asked-at leapt .leap .ensures) (leapt .leapt .ensures)
+    (asked-at leapt .before .natural .ensures) (asked-at leapt .leap .ensures) _
+    (turned-at leapt .turn-after .ensures) (leapt .leapt .ensures)
     (args .lengths .now) (args .handles .now) _ _ _ _ _ _ _
     (told .before .tag-at2 .ensures) (told .natural2 .ensures) (served .served .ensures)
 
@@ -63,6 +71,7 @@ sent-spec =
     tag-at-requires
     natural-requires
     leap-requires
+    turn-after-requires
     leapt-requires
     tag-at-requires-2
     natural-requires-2

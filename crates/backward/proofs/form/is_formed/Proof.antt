@@ -18,8 +18,8 @@ returns-2 c =
     too-late (tested .before .before .before .before .before .args .t2) _
     (omega (arith, c .if2 .taken, tested .if1 .left))
 
-add-t10 : tie.Need-add-t10
-add-t10 c = search needs
+add-together : tie.Need-add-together
+add-together c = search needs
 
 raised-tags-requires : tie.Need-raised-tags-requires
 raised-tags-requires c κs = search needs
@@ -37,4 +37,4 @@ returns-3 c =
 pub is-formed-spec : {M : Type 1} → statement M
 is-formed-spec =
     tie.close
-    (tie.spec returns sub-if2 returns-2 add-t10 raised-tags-requires is-formed-requires returns-3)
+    (tie.spec returns sub-if2 returns-2 add-together raised-tags-requires is-formed-requires returns-3)
