@@ -42,7 +42,7 @@ retagged f tag r = put r f (flowOf tag (flowAt r f .queue))
 abbrev pub widened : Record → ℕ → Record
 widened r width =
     recordOf (r .flows) (r .header) width (r .clock .0) (r .link .0) (r .tags .0) (r .queues .share)
-    (r .queues .largest) (r .queues .first) (r .queues .waiting)
+    (r .queues .largest) (r .queues .first) (r .queues .waiting) (r .turn)
 
 -- the state with another record
 abbrev pub reheld : State → Record → State

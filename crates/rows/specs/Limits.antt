@@ -10,7 +10,7 @@ use Rattle.reply.specs.Reply.{Reply, idle, done, refused, packet}
 use Rattle.queues.specs.Queue.{queueOf}
 use Rattle.uplink.specs.declared.Record.{Record}
 use Rattle.uplink.specs.Flow.{Flow, flowOf}
-use Rattle.uplink.specs.Record.{blank, put, recordOf}
+use Rattle.uplink.specs.Record.{blank, put, turned, recordOf}
 use Rattle.reply.specs.State.{state}
 use Rattle.uplink.specs.State.{State}
 use Rattle.uplink.specs.Calls.{Call, opening, arrival, pick}
@@ -32,7 +32,7 @@ putFrom r f (w ∷ ws) = putFrom (put r f w) (suc f) ws
 abbrev headed : ℕ → ℕ → ℕ → ℕ → ℕ → List Flow → Record
 headed flows header width clock link =
     let zeros : List ℕ = replicate 64 0 in
-    putFrom (recordOf flows header width clock link zeros zeros zeros zeros zeros) 0
+    putFrom (recordOf flows header width clock link zeros zeros zeros zeros zeros 0) 0
 
 -- the same without a header
 abbrev holding : ℕ → ℕ → ℕ → ℕ → List Flow → Record
@@ -188,6 +188,10 @@ limits =
     ∷ shown (outside (table 1 144000 (books 500 100 ∷ flow 0 0 0 0 1 ∷ []))) refl
     ∷ shown (outside (table 63 4800000 (replicate 63 (books 15 100) ++ flow 1 0 0 0 0 ∷ []))) refl
     ∷ shown (outside (table 63 4800000 (replicate 63 (books 15 100) ++ flow 0 0 0 0 1 ∷ []))) refl
+    -- 02 e): "the turn, 0 to 63": 63, which is past the one flow, 64 and the largest word
+    ∷ shown (inside (given [] (turned (at 0 0 0 0) 63)) idle) refl
+    ∷ shown (outside (given [] (turned (at 0 0 0 0) 64))) refl
+    ∷ shown (outside (given [] (turned (at 0 0 0 0) (2 ^ 64 - 1)))) refl
     -- 1: "a lent memory has not exactly 4,096 places", before 2: on the blank record
     ∷ shown (refuses (lending 4095 4096 blank) pick 1) refl
     ∷ shown (refuses (lending 4097 4096 blank) (arrival 0 1 7) 1) refl

@@ -28,11 +28,13 @@ pub data Claim : Type 0 where
   widthIs : ℕ → Claim
   -- the header
   headerIs : ℕ → Claim
+  -- the turn
+  turnIs : ℕ → Claim
   -- the cost of a share
   costIs : ℕ → ℕ → Claim
   -- with this Δ, and at this clock and tag T, step 3 of a pick leaves this clock
   leapIs : ℕ → ℕ → ℕ → Claim
-  -- every number in the record, 5 and for each of 64 flows 5, is 0
+  -- every number in the record, 6 and for each of 64 flows 5, is 0
   recordIsBlank : Claim
   -- the record is as it came
   recordStays : Claim
@@ -81,7 +83,7 @@ sameReplies (a ∷ more) (b ∷ others) = sameReply a b && sameReplies more othe
 -- every number in a record
 abbrev numbersOf : Record → List ℕ
 numbersOf r =
-    r .flows ∷ r .header ∷ r .width ∷ r .clock .0 ∷ r .link .0
+    r .flows ∷ r .header ∷ r .width ∷ r .clock .0 ∷ r .link .0 ∷ r .turn
     ∷ (r .tags .0 ++ r .queues .share ++ r .queues .largest ++ r .queues .first ++ r .queues .waiting)
 
 -- the same lengths and handles
@@ -95,9 +97,10 @@ claimHolds s after (linkIs link) = eqb (after .held .link .0) link
 claimHolds s after (tagIs flow tag) = eqb (tagOf (after .held) flow) tag
 claimHolds s after (widthIs width) = eqb (after .held .width) width
 claimHolds s after (headerIs header) = eqb (after .held .header) header
+claimHolds s after (turnIs turn) = eqb (after .held .turn) turn
 claimHolds s after (costIs share cost) = eqb (costOf share) cost
 claimHolds s after (leapIs clock T then) = eqb (leapClock clock (after .held .width) T) then
-claimHolds s after recordIsBlank = sameNumbers (numbersOf (after .held)) (replicate 325 0)
+claimHolds s after recordIsBlank = sameNumbers (numbersOf (after .held)) (replicate 326 0)
 claimHolds s after recordStays = sameNumbers (numbersOf (after .held)) (numbersOf (s .held))
 claimHolds s after memoriesStay = sameMemories after (s .lengths) (s .handles)
 claimHolds s after memoriesAreBlank = sameMemories after (replicate 4096 0) (replicate 4096 0)

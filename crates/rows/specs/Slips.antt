@@ -70,7 +70,7 @@ idle-keeps-clock-differs = apart (λ o. o .state .held .clock .0) _ _ refl
 
 -- "Leaving the tags at Idle while the clock goes to 0": at P4's pick
 abbrev pub idleKeepsTags : State → Outcome
-idleKeepsTags s = whenIdle (λ r. with r (r .clock) (r .link) (s .held .tags) (r .queues)) (pickRule s)
+idleKeepsTags s = whenIdle (λ r. with r (r .clock) (r .link) (s .held .tags) (r .queues) (r .turn)) (pickRule s)
 
 pub idle-keeps-tags-differs : idleKeepsTags noneWaits ≡ pickRule noneWaits → ⊥
 unfolding noneWaits
