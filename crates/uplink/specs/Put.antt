@@ -3,7 +3,7 @@
 -- Assumes nothing.
 use mathlib.Core.Path.{_≡_, refl, _∙_}
 use mathlib.Core.Logic.{_≢_}
-use mathlib.Core.Bool.{true}
+use mathlib.Core.Bool.{Bool, true, false, cond}
 use mathlib.Core.List.{List}
 use Prim.Native.Nat.{ℕ, _≤_, _<_}
 use native.Mathlib.Decide.{ℕ-discrete}
@@ -18,8 +18,9 @@ use Rattle.queues.specs.Form.{ranged, queueFormed}
 use Rattle.queues.specs.Laws.{queue-at, queue-in, place-other}
 use Rattle.tags.specs.Form.{tagFormed}
 use Rattle.tags.specs.Ticks.{ticks}
+use Rattle.tags.specs.Choice.{turnAfter}
 use Rattle.uplink.specs.Flow.{Flow, flowCost, joinedFlow, servedFlow}
-use Rattle.uplink.specs.Record.{flowAt, tagOf, waitingOf, moved, put, Rows, moved-rows, put-rows, put-here}
+use Rattle.uplink.specs.Record.{flowAt, tagOf, waitingOf, moved, turned, put, Rows, moved-rows, put-rows, put-here}
 use Rattle.uplink.specs.Record.{put-else}
 use Rattle.reply.specs.State.{state}
 use Rattle.uplink.specs.State.{State}
@@ -29,7 +30,8 @@ use Rattle.uplink.specs.Arrival.{storeRule}
 use Rattle.uplink.specs.Pick.{behindCharge, clockAfter, linkOn, serveRule}
 use Rattle.uplink.specs.declared.Record.{Record}
 
--- flow `index` becomes `flow`, its packet of number `number` gets a length and a handle, and the clocks are set
+-- flow `index` becomes `flow`, its packet of number `number` gets a length and a handle, and the clocks are set; it was
+-- picked or not
 pub record Put : Type 0 where
   pub index : ℕ
   pub flow : Flow
@@ -38,14 +40,19 @@ pub record Put : Type 0 where
   pub handle : ℕ
   pub clock : ℕ
   pub link : ℕ
+  pub picked : Bool
 
 -- the place of that packet
 abbrev pub putPlace : State → Put → ℕ
 putPlace s p = placeOf (p .index) (flowAt (s .held) (p .index) .queue .first) (p .number)
 
--- the record with its clocks set
+-- the turn after it: "one past the last flow picked" (02 e)
+abbrev putTurn : State → Put → ℕ
+putTurn s p = cond (p .picked) (turnAfter (p .index)) (s .held .turn)
+
+-- the record with its clocks and its turn set
 abbrev putClocks : State → Put → Record
-putClocks s p = moved (s .held) (p .clock) (p .link)
+putClocks s p = turned (moved (s .held) (p .clock) (p .link)) (putTurn s p)
 
 -- the state after it
 abbrev pub putState : State → Put → State
@@ -66,6 +73,7 @@ storedPut s f n handle =
       handle = handle;
       clock = s .held .clock .0;
       link = s .held .link .0;
+      picked = false;
     }
 
 pub store-put : (s : State) (f n handle : ℕ) → storeRule s f n handle .state ≡ putState s (storedPut s f n handle)
@@ -84,6 +92,7 @@ servedPut s f =
       handle = 0;
       clock = clockAfter s f;
       link = linkOn s f;
+      picked = true;
     }
 
 pub serve-put : (s : State) (f : ℕ) → serveRule s f .state ≡ putState s (servedPut s f)
@@ -122,7 +131,7 @@ module _ (s : State) (p : Put) where
   module _ (R : Rows (s .held)) (F : Formed (s .held) (s .lengths)) (l : f < s .held .flows) where
     -- the record has its 64 rows
     clocks-rows : Rows (putClocks s p)
-    clocks-rows = moved-rows (s .held) (p .clock) (p .link) R
+    clocks-rows = moved-rows (s .held) (p .clock) (p .link) (putTurn s p) R
 
     pub next-rows : Rows (next .held)
     next-rows = put-rows (putClocks s p) f w clocks-rows
@@ -130,6 +139,14 @@ module _ (s : State) (p : Put) where
     -- flow f is the new one
     pub flow-here : flowAt (next .held) f ≡ w
     flow-here = put-here (putClocks s p) f w clocks-rows (omega (arith, F .few))
+
+    -- the turn keeps its range
+    put-turn : putTurn s p < 64
+    put-turn = go (p .picked)
+      where
+        go : (b : Bool) → cond b (turnAfter f) (s .held .turn) < 64
+        go true = omega arith
+        go false = F .turn
 
     -- what holds of flow f, and held of every other, holds of each
     pub put-each : (P : ℕ → Flow → Type 0) → P f w → ((j : ℕ) → j ≢ f → P j (flowAt (s .held) j))
@@ -179,4 +196,5 @@ module _ (s : State) (p : Put) where
               link = low;
               clock = high;
               rest = λ j b e. rw (flow-else j λ q. omega arith) (F .rest j b e);
+              turn = put-turn;
             }

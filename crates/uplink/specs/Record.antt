@@ -99,8 +99,8 @@ pub record Rows (r : Record) : Type 0 where
   pub tags : length (r .tags .0) ≡ 64
   pub queues : Sized (r .queues)
 
-pub moved-rows : (r : Record) (clock link : ℕ) → Rows r → Rows (moved r clock link)
-moved-rows r clock link s = record { tags = s .tags; queues = s .queues }
+pub moved-rows : (r : Record) (clock link turn : ℕ) → Rows r → Rows (turned (moved r clock link) turn)
+moved-rows r clock link turn s = record { tags = s .tags; queues = s .queues }
 
 pub put-rows : (r : Record) (f : ℕ) (w : Flow) → Rows r → Rows (put r f w)
 unfolding put

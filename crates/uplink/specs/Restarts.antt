@@ -1,4 +1,4 @@
--- Where clock, link time and all tags become 0: the record after an Idle, and the one that an opening makes. Both are
+-- Where clock, link time, all tags and the turn become 0: the record after an Idle, and the one that an opening makes. Both are
 -- well formed.
 -- Assumes nothing.
 use mathlib.Core.Path.{_≡_, refl, ap, _∙_}
@@ -46,6 +46,7 @@ module _ (r : Record) (lengths : List ℕ) (F : Formed r lengths)
         link = omega arith;
         clock = omega arith;
         rest = λ f l b. rw (rested-at r f, ap untagged (spare-flow (flowAt r f) (F .rest f l b))) no-flow-spare;
+        turn = omega arith;
       }
 
 module _ (shares largest : List ℕ) (header : ℕ) where
@@ -114,4 +115,5 @@ module _ (shares largest : List ℕ) (header : ℕ) where
           link = omega arith;
           clock = omega arith;
           rest = opened-rest;
+          turn = omega arith;
         }
