@@ -13,7 +13,7 @@ use Rattle.queues.specs.Queues.{queuesOf}
 use Rattle.tags.specs.Ticks.{ticks}
 use Rattle.uplink.specs.Record.{linkTime}
 use Rattle.uplink.specs.Calls.{Call, opening, arrival, pick, everyRule}
-use Rattle.backward.specs.Record.{signedTags, tagOf, put, lowered}
+use Rattle.backward.specs.Record.{signedTags, tagOf, put, turned, lowered}
 use Rattle.backward.specs.State.{State}
 use Rattle.backward.specs.Opening.{openingRule}
 use Rattle.backward.specs.Arrival.{storeRule, arrivalRule}
@@ -90,6 +90,11 @@ examples =
     (pos 144000 ∷ pos 288000 ∷ pos 576000 ∷ pos 432000 ∷ []) refl refl
     -- the sum is "0 again at Idle"
     ∷ row start (fourPicked ++ pick ∷ []) (fourSaid ++ idle ∷ []) (pos 0 ∷ pos 0 ∷ pos 0 ∷ pos 0 ∷ []) refl refl
+    -- 02 e): of equal tags the first flow after the one picked last. Flow 0's second packet and flow 1's only one have
+    -- tag 144,000, and flow 0 was picked last
+    ∷ row start (opened ∷ arrival 0 50 7 ∷ arrival 0 50 7 ∷ arrival 1 100 8 ∷ pick ∷ pick ∷ pick ∷ [])
+    (done [] ∷ done [] ∷ done [] ∷ done [] ∷ packet 0 50 7 72000 false 36000 ∷ packet 1 100 8 144000 false 108000
+    ∷ packet 0 50 7 144000 false 144000 ∷ []) (pos 0 ∷ pos 144000 ∷ pos 144000 ∷ pos 144000 ∷ []) refl refl
     ∷ []
 
 -- one flow of share 500 and largest packet 100, cost 1,440, Δ 144,000: sum, clock, link time, number waiting, its tag,
@@ -107,7 +112,12 @@ holding sum clock link waiting tag rest =
       link = linkTime link;
       tags = signedTags (tag ∷ replicate 63 rest);
       queues = queuesOf (only 500) (only 100) (only 0) (only waiting);
+      turn = 0;
     } memory memory
+
+-- the blank sum and clocks, nothing waiting, and this turn
+abbrev turning : ℕ → State
+turning turn = let s = holding 0 0 0 0 (pos 0) (pos 0) in state (turned (s .held) turn) (s .lengths) (s .handles)
 
 -- a pick on this state is Idle: the record is inside the form
 abbrev Idles : State → Type 0
@@ -117,7 +127,7 @@ Idles s = pickRule s .reply ≡ idle
 abbrev Refuses : ℕ → State → Type 0
 Refuses number s = pickRule s ≡ record { reply = refused number 0; state = s }
 
--- The limits of the form, "with that added to clock and tags": link time, clock, sum, tag and the tags beyond.
+-- The limits of the form, "with that added to clock and tags": link time, clock, sum, tag, the tags beyond and the turn.
 pub record Limits : Type 0 where
   -- "The blank record is all zeros. It is not well formed."
   blank-out : Refuses 2 start
@@ -153,6 +163,10 @@ pub record Limits : Type 0 where
   rest-less : Refuses 2 (holding 144000 5 5 0 (pos 0) (minus 144001))
   rest-more : Refuses 2 (holding 144000 5 5 0 (pos 0) (minus 143999))
   rest-zero : Refuses 2 (holding 144000 5 5 0 (pos 0) (pos 0))
+  -- 02 e): "the turn, 0 to 63"
+  turn-in : Idles (turning 63)
+  turn-out : Refuses 2 (turning 64)
+  turn-full : Refuses 2 (turning (2 ^ 64 - 1))
   -- 10: "something waits and the clock is 2^62 or more", clock and sum together
   late-not : pickRule (holding (2 ^ 62 - 6) 5 5 1 (pos 5) (minus (2 ^ 62 - 6))) .reply ≡ packet 0 100 100 5 false 72005
   late : Refuses 10 (holding (2 ^ 62 - 5) 5 5 1 (pos 5) (minus (2 ^ 62 - 5)))
@@ -192,6 +206,9 @@ limits =
       rest-less = refl;
       rest-more = refl;
       rest-zero = refl;
+      turn-in = refl;
+      turn-out = refl;
+      turn-full = refl;
       late-not = refl;
       late = refl;
       late-sum = refl;

@@ -43,7 +43,7 @@ use Rattle.backward.specs.Form.{formed}
 use Rattle.backward.specs.Formed.{lowered-tag, raised-fits, all-above, waiting-tag}
 use Rattle.backward.specs.Opening.{openingRule}
 use Rattle.backward.specs.Arrival.{storeRule, arrivalRule}
-use Rattle.backward.specs.Pick.{leadOf, leapt, leaptRecord, servedRule, serveRule, idleRule, chooseRule, pickRule}
+use Rattle.backward.specs.Pick.{leadOf, leapt, chosenRecord, leaptRecord, servedRule, serveRule, idleRule, chooseRule, pickRule}
 use Rattle.backward.specs.Calls.{afterCall}
 use Rattle.backward.specs.declared.Record.{Record}
 use Rattle.equal.specs.Raised.{raisedState, raisedValues, raisedOutcome}
@@ -129,7 +129,7 @@ module _ (r : Record) (lengths : List ℕ) (wide : Wide r) (F : Formed (raisedRe
       tag : record-of.tagOf (raisedRecord r) f ≡ natural (tagOf r f) + r .sum .0
       tag = raised-waits r lengths F f l w
 
-      go : (b : Bool) → leapt r f ≡ b → Leapt r (cond b (lowered r) r) f
+      go : (b : Bool) → leapt r f ≡ b → Leapt r (cond b (lowered (chosenRecord r f)) (chosenRecord r f)) f
       go false e = record { all = wide; over = over; tag = tag; queues = refl }
       go true e =
           let far : r .clock .0 + 2 * r .width < natural (tagOf r f) = ltb-true _ _ e in
@@ -190,7 +190,7 @@ module _ (s : State) (wide : Wide (s .held)) (F : Formed (raisedRecord (s .held)
     where
       leads-same : first-pick.leadOf (raisedRecord (s .held)) ≡ further (s .held .sum .0) (leadOf (s .held))
       leads-same =
-          leads-further (λ f. natural (tagOf (s .held) f)) (record-of.tagOf (raisedRecord (s .held)))
+          leads-further (s .held .turn) (λ f. natural (tagOf (s .held) f)) (record-of.tagOf (raisedRecord (s .held)))
           (waitingOf (s .held)) (s .held .sum .0) (s .held .flows) (raised-waits (s .held) (s .lengths) F)
 
       go : (b : Bool) → leadOf (s .held) .waits ≡ b → (c : Bool)
@@ -200,7 +200,8 @@ module _ (s : State) (wide : Wide (s .held)) (F : Formed (raisedRecord (s .held)
       go false e c = ap (λ r. outcome idle r (s .lengths) (s .handles)) (raised-rested (s .held))
       go true e false = refl
       go true e true =
-          let chosen = leads (λ f. natural (tagOf (s .held) f)) (waitingOf (s .held)) (s .held .flows) .smallest e in
+          let chosen = leads (s .held .turn) (λ f. natural (tagOf (s .held) f)) (waitingOf (s .held)) (s .held .flows)
+          .first e .smallest in
           same-serve s wide F (leadOf (s .held) .flow) (chosen .counts) (chosen .waits)
 
 -- a pick

@@ -16,7 +16,7 @@ use Rattle.uplink.specs.Calls.{Call, opening, arrival, pick}
 use Rattle.backward.specs.Record.{tagOf, waitingOf, with, signedTags, lowered}
 use Rattle.backward.specs.State.{State, Outcome}
 use Rattle.backward.specs.Arrival.{storeRule}
-use Rattle.backward.specs.Pick.{leadOf, leapt, servedRule, idleRule}
+use Rattle.backward.specs.Pick.{leadOf, leapt, chosenRecord, servedRule, idleRule}
 use Rattle.backward.specs.Calls.{start, afterCall}
 use Rattle.backward.specs.declared.Record.{Record}
 use Rattle.equal.specs.Rows.{everyStep, fourPicked}
@@ -26,12 +26,13 @@ abbrev lowersWaiting : Record → Record
 lowersWaiting r =
     with r (ticks (r .sum .0 + r .width)) (r .clock) (r .link)
     (signedTags (listed (λ f. cond (eqb (waitingOf r f) 0) (tagOf r f) (signs.lowered (r .width) (tagOf r f))) 0 64))
-    (r .queues)
+    (r .queues) (r .turn)
 
 -- the steps of a call with this leap, whatever the form says: with it a flow beyond the number of flows has a tag
 abbrev served : (Record → Record) → State → ℕ → Outcome
 served lower s f =
-    let r = cond (leapt (s .held) f) (lower (s .held)) (s .held) in
+    let chosen = chosenRecord (s .held) f in
+    let r = cond (leapt (s .held) f) (lower chosen) chosen in
     let gone = servedRule (state r (s .lengths) (s .handles)) f in
     record {
       reply = packet f (gone .length) (gone .handle) (signs.natural (tagOf r f)) (leapt (s .held) f)

@@ -33,7 +33,7 @@ use Rattle.backward.specs.Form.{formed}
 use Rattle.backward.specs.Formed.{lowered-tag}
 use Rattle.backward.specs.Opening.{openingRule}
 use Rattle.backward.specs.Arrival.{storeRule, arrivalRule}
-use Rattle.backward.specs.Pick.{leadOf, leapt, leaptRecord, servedRule, serveRule, idleRule, chooseRule, pickRule}
+use Rattle.backward.specs.Pick.{leadOf, leapt, chosenRecord, leaptRecord, servedRule, serveRule, idleRule, chooseRule, pickRule}
 use Rattle.backward.specs.Calls.{afterCall}
 use Rattle.backward.specs.declared.Record.{Record}
 
@@ -80,12 +80,14 @@ module _ (r : Record) (S : Sound r) where
         even = S .even;
       }
 
+  -- with a flow chosen, after a leap or without one
   sound-leapt : (f : ℕ) → Sound (leaptRecord r f)
+  unfolding lowered
   sound-leapt f = go (leapt r f)
     where
-      go : (b : Bool) → Sound (cond b (lowered r) r)
-      go true = sound-lowered
-      go false = S
+      go : (b : Bool) → Sound (cond b (lowered (chosenRecord r f)) (chosenRecord r f))
+      go true = let L = sound-lowered in record { wide = L .wide; over = L .over; even = L .even }
+      go false = record { wide = S .wide; over = S .over; even = S .even }
 
   -- the flow's tag after an arrival or a pick: of a packet that comes to the front, or as it was
   next-over : (f clock cost charge : ℕ) → f < 64 → (b : Bool)
@@ -154,8 +156,8 @@ module _ (s : State) (S : Sound (s .held)) where
       go F true e false = S
       go F true e true =
           let f = leadOf (s .held) .flow in
-          let chosen = leads (λ g. signs.natural (tagOf (s .held) g)) (waitingOf (s .held)) (s .held .flows)
-          .smallest e in
+          let chosen = leads (s .held .turn) (λ g. signs.natural (tagOf (s .held) g)) (waitingOf (s .held))
+          (s .held .flows) .first e .smallest in
           sound-served (state (leaptRecord (s .held) f) (s .lengths) (s .handles)) (sound-leapt (s .held) S f) f
           (omega (arith, F .few, chosen .counts))
 

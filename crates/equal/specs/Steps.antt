@@ -19,6 +19,7 @@ use Rattle.reply.specs.State.{StateOf, state, outcome}
 use Rattle.queues.specs.Queue.{Queue, placeOf, costTo, joined, left}
 use Rattle.queues.specs.Places.{freedOf}
 use Rattle.tags.specs.Ticks as forward
+use Rattle.tags.specs.Choice.{turnAfter}
 use Rattle.signs.specs.Tags.{natural, raised, frontTag}
 use Rattle.signs.specs.Raise.{above, raised-front, raised-lowered}
 use Rattle.uplink.specs.Flow as flow
@@ -32,7 +33,7 @@ use Rattle.backward.specs.Raised.{raisedRecord}
 use Rattle.backward.specs.Formed.{raised-tag, lowered-tag, all-above, waiting-tag}
 use Rattle.backward.specs.State.{State}
 use Rattle.backward.specs.Arrival.{storeRule}
-use Rattle.backward.specs.Pick.{leapt, leaptRecord, servedRule}
+use Rattle.backward.specs.Pick.{leapt, chosenRecord, leaptRecord, servedRule}
 use Rattle.backward.specs.declared.Record.{Record}
 use Rattle.equal.specs.Raised.{raisedState, raisedOutcome}
 
@@ -42,7 +43,7 @@ Wide r = length (r .tags .0) ≡ 64
 
 -- the record with its raised tags given
 abbrev withTags : declared.Record → List ℕ → declared.Record
-withTags r tags = first.with r (r .clock) (r .link) (first.tagsOf tags) (r .queues)
+withTags r tags = first.with r (r .clock) (r .link) (first.tagsOf tags) (r .queues) (r .turn)
 
 -- a flow put anew
 pub raised-put : (r : Record) (f : ℕ) (tag : ℤ) (queue : Queue) (t : ℕ) → Wide r → f < 64 → raised (r .sum .0) tag ≡ t
@@ -62,7 +63,8 @@ module _ (r : Record) (lengths : List ℕ) (F : Formed (raisedRecord r) lengths)
       first.moved (raisedRecord r) (r .clock .0 + r .sum .0 + r .width) (r .link .0) ≡ raisedRecord (lowered r)
   unfolding lowered
   raised-leap =
-      ap₂ (λ clock tags. first.with (raisedRecord r) (forward.ticks clock) (r .link) (first.tagsOf tags) (r .queues))
+      ap₂ (λ clock tags. first.with (raisedRecord r) (forward.ticks clock) (r .link) (first.tagsOf tags) (r .queues)
+      (r .turn))
       (omega arith)
       (listed-same (λ f. raised (r .sum .0) (tagOf r f)) (λ f. raised (r .sum .0 + r .width) (tagOf (lowered r) f)) 0 64
       (λ f low high. let h : f < 64 = omega arith in
@@ -84,15 +86,17 @@ module _ (r : Record) (lengths : List ℕ) (F : Formed (raisedRecord r) lengths)
 
     -- and as the first engine does
     pub raised-leapt :
-        first.moved (raisedRecord r) (pick.clockLeapt (raisedRecord r) f) (r .link .0) ≡ raisedRecord (leaptRecord r f)
+        first.turned (first.moved (raisedRecord r) (pick.clockLeapt (raisedRecord r) f) (r .link .0)) (turnAfter f)
+        ≡ raisedRecord (leaptRecord r f)
+    unfolding lowered
     raised-leapt = ap at leapt-alike ∙ go (leapt r f)
       where
         at : Bool → declared.Record
-        at b = first.moved (raisedRecord r)
-            (cond b (r .clock .0 + r .sum .0 + r .width) (r .clock .0 + r .sum .0)) (r .link .0)
+        at b = first.turned (first.moved (raisedRecord r)
+            (cond b (r .clock .0 + r .sum .0 + r .width) (r .clock .0 + r .sum .0)) (r .link .0)) (turnAfter f)
 
-        go : (b : Bool) → at b ≡ raisedRecord (cond b (lowered r) r)
-        go true = raised-leap
+        go : (b : Bool) → at b ≡ raisedRecord (cond b (lowered (chosenRecord r f)) (chosenRecord r f))
+        go true = ap (λ next. first.turned next (turnAfter f)) raised-leap
         go false = refl
 
 -- the tag of a flow after an arrival or a pick: of a packet that comes to the front, or as it was
@@ -155,5 +159,5 @@ raised-rested r = ap (withTags (first.rested (raisedRecord r))) (sym no-tags)
 -- a record in which nothing is tagged and nothing has leapt
 pub raised-unleapt : (r : declared.Record) → r .tags .0 ≡ replicate 64 0 → r ≡ raisedRecord (unleapt r)
 raised-unleapt r e =
-    ap₂ (λ clock tags. first.with r (forward.ticks clock) (r .link) (first.tagsOf tags) (r .queues))
+    ap₂ (λ clock tags. first.with r (forward.ticks clock) (r .link) (first.tagsOf tags) (r .queues) (r .turn))
     (omega arith) (e ∙ sym no-tags)
