@@ -10,10 +10,10 @@ use native.Mathlib.Decide.{ℕ-discrete}
 use native.Mathlib.Omega.{arith}
 use lib.Dec.{ltb, eqb}
 use lib.ListN.{getD}
-use borrow.Author.Tests.{ltb-true, ltb-false, lt-ltb, le-ltb, eqb-true, eqb-false, eq-eqb, ne-eqb}
+use borrow.Author.Tests.{ltb-true, ltb-false, lt-ltb, le-ltb, eqb-true, eqb-false}
 use Rattle.below.specs.Truth.{true-false, same-lt}
 use Rattle.tags.specs.Ticks.{ticks}
-use Rattle.tags.specs.Choice.{Smallest, First, fromTurn, turnAfter, noTag, noLead, leadAt, goesBefore, ahead}
+use Rattle.tags.specs.Choice.{First, fromTurn, turnAfter, noTag, noLead, leadAt, goesBefore, ahead}
 use Rattle.tags.specs.Choice.{leadBy}
 use Rattle.tags.specs.declared.choice.Lead.{Lead}
 
