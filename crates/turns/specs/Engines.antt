@@ -1,0 +1,125 @@
+-- Both engines go by the turn ("Both engines follow", document 02 e). So in every run, whatever the calls, refused ones
+-- and Idle picks included, the flow picked last loses every tie, and the turn is one past it.
+-- Assumes nothing.
+use mathlib.Core.Path.{_≡_, refl}
+use mathlib.Core.Bool.{Bool, true, false, cond}
+use mathlib.Core.List.{List}
+use Prim.Native.Nat.{_+_}
+use lib.Dec.{ltb}
+use Rattle.reply.specs.State.{StateOf}
+use Rattle.queues.specs.Places.{joinReply}
+use Rattle.queues.specs.Opening.{listsReply}
+use Rattle.signs.specs.Tags.{natural}
+use Rattle.uplink.specs.Record as first-record
+use Rattle.uplink.specs.Form as first-form
+use Rattle.uplink.specs.Formed.{formed-out}
+use Rattle.uplink.specs.Opening as first-opening
+use Rattle.uplink.specs.Arrival as first-arrival
+use Rattle.uplink.specs.Pick as first-pick
+use Rattle.uplink.specs.Calls as first
+use Rattle.uplink.specs.Calls.{Call}
+use Rattle.uplink.specs.declared.Record as first-declared
+use Rattle.backward.specs.Record as plain-record
+use Rattle.backward.specs.Raised.{raisedRecord}
+use Rattle.backward.specs.Form as plain-form
+use Rattle.backward.specs.Opening as plain-opening
+use Rattle.backward.specs.Arrival as plain-arrival
+use Rattle.backward.specs.Pick as plain-pick
+use Rattle.backward.specs.Calls as plain
+use Rattle.backward.specs.declared.Record as plain-declared
+use Rattle.turns.specs.Fair.{Last, nobody, turnOf, Engine, LosesTies, endOf, lastOf, ByTurn, turn-is}
+use Rattle.turns.specs.Fair.{loses-ties}
+use Rattle.turns.specs.Ways.{opening-turn, arrival-turn, pick-picked}
+
+-- the first engine
+abbrev pub firstEngine : Engine first-declared.Record
+firstEngine =
+    record {
+      after = first.afterCall;
+      flows = λ r. r .flows;
+      tag = first-record.tagOf;
+      waiting = first-record.waitingOf;
+      turn = λ r. r .turn;
+    }
+
+-- it goes by the turn
+first-by-turn : ByTurn firstEngine
+unfolding first-record.put first-form.checked first-opening.newRecord first-opening.openingRule first-arrival.storeRule
+    first-arrival.joinRule first-pick.serveRule first-pick.idleRule first-pick.chooseRule
+first-by-turn =
+    record {
+      opens = λ s shares largest header.
+          opening-turn firstEngine (listsReply shares largest header (s .lengths) (s .handles))
+          (first-opening.newRecord shares largest header) first-record.blank (s .lengths) (s .handles) refl refl;
+      arrives = λ s f length handle. arrival-turn firstEngine s (first-form.formed (s .held) (s .lengths))
+          (first-arrival.joining s f length) (first-arrival.storeRule s f length handle) refl;
+      picks = λ s. let r = s .held in
+          pick-picked firstEngine s (first-form.formed r (s .lengths)) (ltb (r .clock .0) first-pick.clockLimit)
+          (first-pick.serveRule s) (first-pick.idleRule s) _ (λ e. formed-out r (s .lengths) e .few)
+          (λ f. refl) (λ f. refl) refl refl;
+    }
+
+-- the plain engine; the tag of a flow that waits is a natural number
+abbrev pub plainEngine : Engine plain-declared.Record
+plainEngine =
+    record {
+      after = plain.afterCall;
+      flows = λ r. r .flows;
+      tag = λ r f. natural (plain-record.tagOf r f);
+      waiting = plain-record.waitingOf;
+      turn = λ r. r .turn;
+    }
+
+-- a leap leaves the turn
+leapt-turn : (r : plain-declared.Record) (b : Bool) → cond b (plain-record.lowered r) r .turn ≡ r .turn
+unfolding plain-record.lowered
+leapt-turn r true = refl
+leapt-turn r false = refl
+
+-- it goes by the turn too
+plain-by-turn : ByTurn plainEngine
+unfolding plain-record.put first-opening.newRecord plain-opening.openingRule plain-arrival.storeRule
+    plain-arrival.arrivalRule plain-pick.servedRule plain-pick.serveRule plain-pick.idleRule plain-pick.chooseRule
+    plain-pick.pickRule
+plain-by-turn =
+    record {
+      opens = λ s shares largest header.
+          opening-turn plainEngine (listsReply shares largest header (s .lengths) (s .handles))
+          (plain-record.unleapt (first-opening.newRecord shares largest header)) plain-record.blank
+          (s .lengths) (s .handles) refl refl;
+      arrives = λ s f length handle. let q = plain-record.queueOf (s .held) f in
+          arrival-turn plainEngine s (plain-form.formed (s .held) (s .lengths))
+          (joinReply (s .held .flows) f length (q .largest) (q .waiting))
+          (plain-arrival.storeRule s f length handle) refl;
+      picks = λ s. let r = s .held in
+          pick-picked plainEngine s (plain-form.formed r (s .lengths))
+          (ltb (r .clock .0 + r .sum .0) first-pick.clockLimit) (plain-pick.serveRule s) (plain-pick.idleRule s) _
+          (λ e. formed-out (raisedRecord r) (s .lengths) e .few) (λ f. refl)
+          (λ f. leapt-turn (plain-pick.chosenRecord r f) (plain-pick.leapt r f)) refl refl;
+    }
+
+-- In every run of the first engine the flow picked last loses every tie: from the blank record on, and from any state
+-- whose turn is one past the flow picked last.
+pub first-engine-fair : (calls : List Call) → LosesTies firstEngine nobody first.start calls
+first-engine-fair calls = loses-ties firstEngine first-by-turn nobody first.start calls refl
+
+pub first-engine-fair-from : (last : Last) (s : StateOf first-declared.Record) (calls : List Call)
+    → s .held .turn ≡ turnOf last → LosesTies firstEngine last s calls
+first-engine-fair-from = loses-ties firstEngine first-by-turn
+
+-- and its turn is "one past the last flow picked, 63 to 0, and 0 after an opening or Idle"
+pub first-engine-turn : (calls : List Call)
+    → endOf firstEngine first.start calls .held .turn ≡ turnOf (lastOf firstEngine nobody first.start calls)
+first-engine-turn calls = turn-is firstEngine first-by-turn nobody first.start calls refl
+
+-- The same of the plain engine.
+pub plain-engine-fair : (calls : List Call) → LosesTies plainEngine nobody plain.start calls
+plain-engine-fair calls = loses-ties plainEngine plain-by-turn nobody plain.start calls refl
+
+pub plain-engine-fair-from : (last : Last) (s : StateOf plain-declared.Record) (calls : List Call)
+    → s .held .turn ≡ turnOf last → LosesTies plainEngine last s calls
+plain-engine-fair-from = loses-ties plainEngine plain-by-turn
+
+pub plain-engine-turn : (calls : List Call)
+    → endOf plainEngine plain.start calls .held .turn ≡ turnOf (lastOf plainEngine nobody plain.start calls)
+plain-engine-turn calls = turn-is plainEngine plain-by-turn nobody plain.start calls refl

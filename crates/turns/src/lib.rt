@@ -1,0 +1,1 @@
+// Theorems alone: of equal tags the flow picked last goes last. specs/Lib.antt is the index.
