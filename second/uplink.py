@@ -44,6 +44,8 @@ class Flow:
 class Record:
     # "It holds the number of flows, Δ, the clock, the link time, and for each flow: ..."
     # 02 a): "The opening takes a header size, 0 to 64, which the record keeps"
+    # 02 e): "The record gains the turn, 0 to 63: one past the last flow picked, 63 to 0, and 0
+    # after an opening or Idle."
     # "The blank record is all zeros": Record().
     number_of_flows: int = 0
     header: int = 0
@@ -51,6 +53,7 @@ class Record:
     clock: int = 0
     link_time: int = 0
     flows: list = field(default_factory=lambda: [Flow() for _ in range(64)])
+    turn: int = 0
 
     def table(self):
         return self.flows[:self.number_of_flows]
@@ -77,7 +80,8 @@ def place(f, first, k):
 
 
 # "The record is well formed when all of these hold": one function for each bullet, and one for
-# the field that 02 a) adds.
+# each field that 02 a) and 02 e) add: "A field that a request adds to the record later has its
+# stated range as part of the form."
 
 def table_is_well_formed(record):
     # "1 to 64 flows; shares 1 to 1,000 with sum at most 1,000; largest packets 1 to 1,500;
@@ -117,8 +121,13 @@ def the_rest_is_zero(record):
 
 
 def header_is_well_formed(record):
-    # "A field that a request adds to the record later has its stated range as part of the form."
+    # 02 a): "a header size, 0 to 64"
     return 0 <= record.header <= 64
+
+
+def turn_is_well_formed(record):
+    # 02 e): "the turn, 0 to 63", whatever the number of flows
+    return 0 <= record.turn <= 63
 
 
 def check_memories(memories):
@@ -130,7 +139,8 @@ def check_memories(memories):
 def is_well_formed(record, memories):
     return (table_is_well_formed(record) and waiting_is_well_formed(record, memories)
             and tags_are_well_formed(record) and clocks_are_well_formed(record)
-            and the_rest_is_zero(record) and header_is_well_formed(record))
+            and the_rest_is_zero(record) and header_is_well_formed(record)
+            and turn_is_well_formed(record))
 
 
 def check_memories_and_record(memories, record):
@@ -154,7 +164,7 @@ def opening(shares, largest_packets, header, memories, blank=Record):
     if sum(shares) > 1000:
         raise Refusal(6)
     # "It gives the record with clock, link time, tags, firsts and waiting numbers 0,
-    # and sets all 4,096 places of both memories to 0."
+    # and sets all 4,096 places of both memories to 0." 02 e): the turn is "0 after an opening".
     record = blank(number_of_flows=len(shares), header=header)
     for flow, share, largest in zip(record.flows, shares, largest_packets):
         flow.share, flow.largest = share, largest
@@ -211,15 +221,18 @@ def flows_that_wait(record):
 
 def idle(record):
     # 1. "Nothing waits: reply Idle; clock, link time and all tags become 0; all else stays."
-    record.clock = record.link_time = 0
+    # 02 e): the turn too is "0 after an opening or Idle".
+    record.clock = record.link_time = record.turn = 0
     for flow in record.flows:
         flow.tag = 0
     return "idle"
 
 
 def smallest_tag(record, waiting_flows):
-    # 2. "Take the waiting flow with the smallest tag T. ... the lowest flow number wins."
-    return min(waiting_flows, key=lambda g: (record.flows[g].tag, g))
+    # 2. "Take the waiting flow with the smallest tag T." 02 e): "among equals, the first flow after
+    # the one picked last, counting round". The turn is one past that flow, so the distance from
+    # the turn is counted, 63 being followed by 0.
+    return min(waiting_flows, key=lambda g: (record.flows[g].tag, (g - record.turn) % 64))
 
 
 def is_far_ahead(record, f):
@@ -246,6 +259,8 @@ def serve(record, memories, f, leapt):
     if flow.waiting > 0:
         next_length = memories.lengths[place(f, flow.first, 0)]
         flow.tag = max(tag, record.clock) + record.charge(next_length) * cost(flow.share)
+    # 02 e): the turn is "one past the last flow picked, 63 to 0".
+    record.turn = (f + 1) % 64
     # "The reply is flow, length, handle, T, leapt or not, clock."
     return f, length, handle, tag, leapt, record.clock
 
