@@ -1,4 +1,5 @@
-"""Document 01's examples and limits, as input lines with the output that the document gives.
+"""Document 01's examples and limits, as input lines with the output that the document gives, and the
+crew of flow 9 in 02 e), worked out by hand.
 
 Each script is a text of `input -> output` lines; a line without an arrow writes nothing.
 Rows stay in the table once they are written, so a refused table ends its script's traffic
@@ -217,6 +218,36 @@ p -> p 0 0 1 1 1440 0 1440
 p -> p idle
 """
 
+# 64 flows, q = 15, largest 1; cost 48,000. Flow 9 before flow 0 once flow 8 has gone, and flow 63
+# before flow 1 once flow 62 has; the lower number first after Idle and after an opening.
+FLOW_NINE = "f 15 1\n" * 64 + """\
+o -> o 0 0
+a 8 1 1 -> a 0
+p -> p 0 8 1 1 48000 0 720
+a 0 1 2 -> a 0
+a 9 1 3 -> a 0
+p -> p 0 9 1 3 48720 0 1440
+p -> p 0 0 1 2 48720 0 2160
+a 62 1 4 -> a 0
+p -> p 0 62 1 4 50160 0 2880
+a 1 1 5 -> a 0
+a 61 1 6 -> a 0
+a 63 1 7 -> a 0
+p -> p 0 63 1 7 50880 0 3600
+p -> p 0 1 1 5 50880 0 4320
+p -> p 0 61 1 6 50880 0 5040
+p -> p idle
+a 9 1 8 -> a 0
+a 3 1 9 -> a 0
+p -> p 0 3 1 9 48000 0 720
+o -> o 0 0
+a 9 1 8 -> a 0
+a 3 1 9 -> a 0
+p -> p 0 3 1 9 48000 0 720
+p -> p 0 9 1 8 48000 0 1440
+p -> p idle
+"""
+
 SCRIPTS = {
     "examples": (BLANK_RECORD + WHOLE_EXAMPLE + FOUR_PACKETS_AT_ONE_FLOW + LENGTHS_AND_FLOW_NUMBERS
                  + SIXTY_FOUR_WAITING + SHARE_ZERO_AFTER_TWO_FLOWS),
@@ -229,6 +260,7 @@ SCRIPTS = {
     "sum-over": SUM_OVER,
     "rows": NUMBER_OF_ROWS,
     "bad-lines": BAD_LINES,
+    "flow-nine": FLOW_NINE,
 }
 
 

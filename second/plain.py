@@ -1,10 +1,10 @@
 #!/usr/bin/env python3
 """The plain engine beside the fast one, leap backward, of the second program: document 02 c).
 
-Written from documents 01 and 02 alone. A script is read, a table opened, a packet stored and freed, the flow of smallest
-tag found and its packet served as by the first engine (uplink.py): of 02 e), the turn, "Both engines follow". Here is
-what is the plain engine's own: its record, its form, its leap and what Idle does. Words in quotation marks are 02 c)'s,
-or document 01's where they follow "01".
+Written from documents 01 and 02 alone. A script is read, a table opened, a packet stored and freed, the smallest tag
+found and its packet served as by the first engine (uplink.py), the turn of 02 e) with it. Here is what is the plain
+engine's own: its record, its form, its leap and what Idle does. Words in quotation marks are 02 c)'s, or document 01's
+where they follow "01".
 
     python3 second/plain.py < SCRIPT
 

@@ -34,6 +34,8 @@ class RecordMaker:
         record.link_time = self.dice.one_of([0, clock, self.dice.below(clock + 1)])
         record.sum_of_widths = self.dice.one_of([0, clock, self.dice.below(clock + 1), clock - min(clock, 1)])
         record.clock = clock - record.sum_of_widths
+        one_of_them = self.dice.below(record.number_of_flows)
+        record.turn = self.dice.one_of([0, 63, record.number_of_flows % 64, self.dice.below(64), *[one_of_them] * 4])
         for f, flow in enumerate(record.flows):
             raised_tag = self.raised_tag(record, f, clock) if f < record.number_of_flows else 0
             flow.tag = raised_tag - record.sum_of_widths
@@ -56,7 +58,8 @@ class RecordMaker:
         """One field becomes another number, mostly one that is close by or in a corner."""
         f = self.dice.below(64)
         self.dice.one_of([self.damage_sum, self.damage_sum, self.damage_tag, self.damage_tag, self.damage_tag,
-                          self.damage_clocks, self.damage_the_rest, self.damage_memories])(record, record.flows[f])
+                          self.damage_clocks, self.damage_turn, self.damage_the_rest,
+                          self.damage_memories])(record, record.flows[f])
 
     def damage_sum(self, record, _flow):
         """Half the time clock and tags go with it by 64 bits: only a sum that does not wrap finds this out."""
@@ -78,6 +81,10 @@ class RecordMaker:
         name = self.dice.one_of(["clock", "link_time"])
         level = record.clock + record.sum_of_widths
         setattr(record, name, self.dice.one_of(CORNERS + [level, level + 1, level - min(level, 1)]) % 2**64)
+
+    def damage_turn(self, record, _flow):
+        """Past its end, or another one that is none the worse."""
+        record.turn = self.dice.one_of([0, 1, 62, 63, 64, 65, 127, 128, 255, 256, 65_536, record.turn + 64, *CORNERS])
 
     def damage_the_rest(self, record, flow):
         name, numbers = self.dice.one_of([

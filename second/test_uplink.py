@@ -127,6 +127,7 @@ class Refusals(Document):
             lambda record, memories: setattr(record, "leap_width", 143_999),
             lambda record, memories: setattr(record, "clock", 144_001),
             lambda record, memories: setattr(record, "link_time", 1),
+            lambda record, memories: setattr(record, "turn", 64),
             lambda record, memories: setattr(record.flows[0], "share", 501),
             lambda record, memories: setattr(record.flows[0], "share", 0),
             lambda record, memories: setattr(record.flows[0], "largest", 1501),

@@ -59,6 +59,12 @@ def equal_table(dice):
     return [(share, dice.one_of([10, 100]))] * number_of_flows
 
 
+def alike_table(dice):
+    """Flows that are all alike, with short packets: their tags are often equal."""
+    number_of_flows = dice.one_of([3, 10, 64])
+    return [(dice.one_of([1, 10, 1000 // number_of_flows]), dice.between(1, 3))] * number_of_flows
+
+
 def half_table(dice):
     """Shares of 500 with whole packets: tags come to be exactly 2 leap widths above the clock."""
     return [(500, dice.one_of([1, 100, 1500]))] * dice.between(1, 2)
@@ -233,6 +239,15 @@ class Traffic:
             if self.dice.chance(30):
                 yield self.pick()
 
+    def meet(self):
+        """A packet at each flow, from any one on, and fewer picks or as many."""
+        number_of_flows = len(self.rows)
+        start = self.dice.below(number_of_flows)
+        for k in range(number_of_flows):
+            yield self.arrival((start + k) % number_of_flows)
+        for _ in range(self.dice.between(1, number_of_flows)):
+            yield self.pick()
+
     def fill(self):
         """Arrivals at one flow until its 64 places are taken, and a few more."""
         flow = self.favourite()
@@ -296,6 +311,7 @@ KINDS = {
     "camera": Kind(camera_table, edge_length, "mix mix burst drain top_up single"),
     "leaps": Kind(slow_table, edge_length, "mix burst fill drain single"),
     "ties": Kind(equal_table, largest_length, "mix burst burst drain single"),
+    "turns": Kind(alike_table, any_length, "meet meet mix single drain"),
     "halves": Kind(half_table, largest_length, "burst mix drain drain single"),
     "full": Kind(equal_table, any_length, "fill fill burst top_up top_up drain", wrong=3),
     "mixed": Kind(mixed_table, any_length, "mix burst drain fill top_up single idle"),
