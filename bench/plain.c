@@ -119,6 +119,8 @@ static bool well_formed(const struct plain_record *record, const uint16_t *lengt
 
     if (record->flows < 1 || record->flows > PLAIN_FLOWS || record->header > MAX_HEADER)
         return false;
+    if (record->turn >= PLAIN_FLOWS)
+        return false;
     if (record->clock >= CLOCK_END || record->link > record->clock)
         return false;
     for (uint32_t f = 0; f < record->flows; f++) {
@@ -171,7 +173,7 @@ static enum plain_answer refuse_table(const uint32_t *shares, size_t shares_coun
 }
 
 /* "It gives the record with clock, link time, tags, firsts and waiting numbers 0, and sets all 4,096 places of both
- * memories to 0." */
+ * memories to 0." The turn is 0 too. */
 enum plain_answer plain_opening(const uint32_t *shares, size_t shares_count,
                                 const uint32_t *largest, size_t largest_count,
                                 uint32_t header,
@@ -236,28 +238,39 @@ enum plain_answer plain_arrival(uint32_t f, uint32_t length, uint32_t handle,
     return PLAIN_DONE;
 }
 
-/* "Take the waiting flow with the smallest tag: the lowest flow number wins." The number of flows if nothing waits. */
-static uint32_t choose(const struct plain_record *record)
+/* Of the flows from `f` up to `end`, the first waiting one whose tag is the smallest and below *smallest, which becomes
+ * that tag; `best` if there is none. */
+static inline uint32_t choose_from(const struct plain_record *record, uint32_t f, uint32_t end, uint64_t *smallest,
+                                   uint32_t best)
 {
-    uint32_t best = record->flows;
-    uint64_t smallest = UINT64_MAX; /* above the tag of every well-formed record */
-
-    for (uint32_t f = 0; f < record->flows; f++) {
+    for (; f < end; f++) {
         const struct plain_flow *flow = &record->flow[f];
 
-        if (flow->waiting > 0 && flow->tag < smallest) {
-            smallest = flow->tag;
+        if (flow->waiting > 0 && flow->tag < *smallest) {
+            *smallest = flow->tag;
             best = f;
         }
     }
     return best;
 }
 
-/* "clock, link time and all tags become 0; all else stays" */
+/* "Take the waiting flow with the smallest tag", and "among equals, the first flow after the one picked last, counting
+ * round": from the turn on, and then those below the turn. The number of flows if nothing waits. */
+static uint32_t choose(const struct plain_record *record)
+{
+    uint32_t turn = record->turn < record->flows ? (uint32_t)record->turn : 0;
+    uint64_t smallest = UINT64_MAX; /* above the tag of every well-formed record */
+    uint32_t best = choose_from(record, turn, record->flows, &smallest, record->flows);
+
+    return choose_from(record, 0, turn, &smallest, best);
+}
+
+/* "clock, link time and all tags become 0; all else stays", but the turn, which is "0 after an opening or Idle" */
 static void reset(struct plain_record *record)
 {
     record->clock = 0;
     record->link = 0;
+    record->turn = 0;
     for (uint32_t f = 0; f < record->flows; f++)
         record->flow[f].tag = 0;
 }
@@ -291,6 +304,8 @@ static void serve(struct plain_record *record, uint32_t f, uint16_t *lengths, ui
     if (flow->waiting > 0)
         flow->tag = larger(flow->tag, record->clock)
                   + (uint64_t)charge(record, lengths[place(record, f, 0)]) * cost(flow->share);
+    /* the turn is "one past the last flow picked, 63 to 0" */
+    record->turn = (f + 1) % PLAIN_FLOWS;
 }
 
 enum plain_answer plain_pick(struct plain_record *record,

@@ -1,5 +1,5 @@
-/* The uplink scheduler in plain C: the three calls of document 01, with the header of document 02, over a record by
- * pointer, and a look at one flow.
+/* The uplink scheduler in plain C: the three calls of document 01, with the header and the turn of document 02, over a
+ * record by pointer, and a look at one flow.
  *
  * The caller owns the record and the two memories. A refused opening leaves the blank record, which is all zeros, and
  * both memories as they were; any other refused call changes nothing.
@@ -40,7 +40,8 @@ struct plain_flow {
     uint16_t waiting;
 };
 
-/* "It holds the number of flows, the leap width, the clock, the link time, and for each flow: .." */
+/* "It holds the number of flows, the leap width, the clock, the link time, and for each flow: .."
+ * "The record gains the turn, 0 to 63: one past the last flow picked, 63 to 0, and 0 after an opening or Idle." */
 struct plain_record {
     uint32_t flows;
     uint32_t header; /* bytes */
@@ -48,6 +49,7 @@ struct plain_record {
     uint64_t clock;
     uint64_t link;
     struct plain_flow flow[PLAIN_FLOWS];
+    uint64_t turn;
 };
 
 /* "The reply is flow, length, handle, T, leapt or not, clock." */

@@ -49,12 +49,13 @@ extern "C" {
 #endif
 
 /* Grows by one when a call, a number or a promise of this file is added, changed or taken away. In version 1 the names
- * began with gateway_; since version 3 an opening takes a header, which the record keeps and charges count. The library
+ * began with gateway_; since version 3 an opening takes a header, which the record keeps and charges count; since
+ * version 4 flows of equal tags take turns, and the record has one word more, which keeps whose turn it is. The library
  * does not tell its version: use the uplink.h that was put beside it. */
-#define UPLINK_VERSION 3
+#define UPLINK_VERSION 4
 
-#define UPLINK_RECORD_WORDS 131
-#define UPLINK_RECORD_ORDER 3
+#define UPLINK_RECORD_WORDS 132
+#define UPLINK_RECORD_ORDER 4
 #define UPLINK_PLACES 4096
 
 /* The words of a pick's reply. */
@@ -86,12 +87,12 @@ extern "C" {
 #define UPLINK_REFUSED_LENGTH 8   /* arrival: the length is 0 or over the flow's largest */
 #define UPLINK_REFUSED_FULL 9     /* arrival: 64 packets already wait in that flow */
 #define UPLINK_REFUSED_CLOCK 10   /* pick: something waits and the clock is 2^62 or more, see below */
-#define UPLINK_IDLE 100           /* pick: nothing waits; clock, link time and all tags are 0 again */
+#define UPLINK_IDLE 100           /* pick: nothing waits; clock, link time, all tags and the turn are 0 again */
 #define UPLINK_REFUSED_RECORD 101 /* record has not exactly UPLINK_RECORD_WORDS words */
 #define UPLINK_REFUSED_REPLY 102  /* pick, depth: reply has not exactly its number of words */
 
 /* Well formed (2) is what docs/RULES.md, "The record", asks of the record and of the lengths that wait, and no more:
- *   - the header is 0 to 64;
+ *   - the header is 0 to 64, the turn 0 to 63;
  *   - 1 to 64 flows, each with a share of 1 to 1,000 and a largest packet of 1 to 1,500; the shares sum to at most
  *     1,000; the leap width is the greatest of the flows' (largest packet + header) x (720,000 / share, rounded up);
  *   - a flow's first place is 0 to 63, its number waiting 0 to 64, each of its waiting lengths 1 to its largest packet;
@@ -137,8 +138,10 @@ uint32_t uplink_arrival(uint32_t flow, uint32_t length, uint32_t handle,
                         uint16_t *lengths, size_t lengths_places,
                         uint32_t *handles, size_t handles_places);
 
-/* The packet to send next. Where the answer is UPLINK_DONE, reply holds the packet, which waits no more; with any other
- * answer no word of reply changes. Order of answers: 101, 102, 1, 2, UPLINK_IDLE, 10. */
+/* The packet to send next: it is in front at the flow of smallest tag, and of flows with equal tags at the first one
+ * after the flow picked last, counting round from 63 to 0; after an opening or UPLINK_IDLE, counting from flow 0 on.
+ * Where the answer is UPLINK_DONE, reply holds the packet, which waits no more; with any other answer no word of reply
+ * changes. Order of answers: 101, 102, 1, 2, UPLINK_IDLE, 10. */
 uint32_t uplink_pick(uint64_t *record, size_t record_words,
                      uint16_t *lengths, size_t lengths_places,
                      uint32_t *handles, size_t handles_places,

@@ -23,9 +23,9 @@
 use std::error::Error;
 use std::fmt;
 
-pub const RECORD_WORDS: usize = 131;
+pub const RECORD_WORDS: usize = 132;
 /// The order of a record's words: one kept by a library of another order has to be opened anew.
-pub const RECORD_ORDER: u32 = 3;
+pub const RECORD_ORDER: u32 = 4;
 pub const PLACES: usize = 4096;
 const REPLY_WORDS: usize = 6;
 const DEPTH_WORDS: usize = 4;
@@ -157,7 +157,7 @@ pub struct Packet {
 #[derive(Clone, Copy, Debug, PartialEq, Eq)]
 pub enum Pick {
     Packet(Packet),
-    /// Nothing waits; clock, link time and all tags are 0 again.
+    /// Nothing waits; clock, link time, all tags and the turn are 0 again.
     Idle,
     Refused(Refusal),
 }
@@ -233,7 +233,7 @@ impl Uplink {
         }
     }
 
-    /// The packet to send next.
+    /// The packet to send next. Flows of equal tags take turns, counting round from the flow picked last.
     pub fn pick(&mut self) -> Pick {
         let mut reply = [0u64; REPLY_WORDS];
         // Safety: as in `open`.

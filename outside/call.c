@@ -169,12 +169,21 @@ static void show(const struct call *call)
     }
 }
 
+/* True where a flow of lower number than the one picked waited with its tag, so that the turn has decided. */
+static bool has_turned(const struct plain_record *record, const uint64_t *reply_words)
+{
+    for (size_t f = 0; f < reply_words[0]; f++)
+        if (record->flow[f].waiting > 0 && record->flow[f].tag == reply_words[3])
+            return true;
+    return false;
+}
+
 bool call_agrees(const struct call *call, struct state *state, struct outcome *outcome)
 {
     static struct state given;
     uint64_t reply_given[UPLINK_REPLY_WORDS], reply_next[UPLINK_REPLY_WORDS];
     uint64_t got, expected;
-    bool taken, same;
+    bool picked, taken, same;
 
     for (size_t i = 0; i < UPLINK_REPLY_WORDS; i++)
         reply_next[i] = reply_given[i] = dice();
@@ -182,7 +191,9 @@ bool call_agrees(const struct call *call, struct state *state, struct outcome *o
     got = library_answer(call, &given, reply_given);
     expected = plain_answer(call, state, reply_next);
     outcome->answer = (uint32_t)expected;
-    outcome->leapt = call->kind == PICK && expected == UPLINK_DONE && reply_next[4] == 1;
+    picked = call->kind == PICK && expected == UPLINK_DONE;
+    outcome->leapt = picked && reply_next[4] == 1;
+    outcome->turned = picked && has_turned(&given.record, reply_next);
     if (got != expected)
         printf("  answer: expected %" PRIu64 " (flow %" PRIu64 "), got %" PRIu64 " (flow %" PRIu64 ")\n",
                expected & UINT32_MAX, expected >> 32, got & UINT32_MAX, got >> 32);
@@ -194,7 +205,8 @@ bool call_agrees(const struct call *call, struct state *state, struct outcome *o
         return true;
     printf("  given: flows %" PRIu32 ", header %" PRIu32 ", leap width %" PRIu32, given.record.flows,
            given.record.header, given.record.leap);
-    printf(", clock %" PRIu64 ", link time %" PRIu64 "\n", given.record.clock, given.record.link);
+    printf(", clock %" PRIu64 ", link time %" PRIu64 ", turn %" PRIu64 "\n", given.record.clock, given.record.link,
+           given.record.turn);
     show(call);
     return false;
 }

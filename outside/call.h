@@ -29,6 +29,7 @@ struct call {
 struct outcome {
     uint32_t answer;
     bool leapt;
+    bool turned; /* a packet was picked, though a flow of lower number waited with the same tag */
 };
 
 void call_prepare(void);

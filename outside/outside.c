@@ -6,8 +6,8 @@
  * of wrong lengths. After each call the answer, every word of the block, every place of both memories, every word of
  * the reply and guards around all of them are compared; after a refused opening the block has to be all zeros, and
  * after any other refused call nothing may have changed. Stops at the first difference. In a million calls or more,
- * each answer, each of a depth's, a leap and an opening refused for its header alone have to come up a thousand times;
- * in fewer calls, once in a thousand. */
+ * each answer, each of a depth's, a leap, an opening refused for its header alone, a pick that the turn decided and a
+ * call refused for the turn alone have to come up a thousand times; in fewer calls, once in a thousand. */
 #include <inttypes.h>
 #include <signal.h>
 #include <stdio.h>
@@ -21,7 +21,7 @@
 
 static uint64_t wanted, compared, seed;
 static uint64_t counts[CALL_KINDS][ANSWERS];
-static uint64_t leaps, headers_refused;
+static uint64_t leaps, headers_refused, turned, turns_refused;
 static struct state state;
 
 static bool more(void)
@@ -36,6 +36,24 @@ static bool refused_for_header(const struct call *call, uint32_t answer)
         && call->shares_count >= 1 && call->shares_count <= PLAIN_FLOWS;
 }
 
+/* True where it is the turn alone that made an arrival or a pick answer 2: with a turn of 0 it would not have. The call
+ * was refused, so the state is the one that was given. */
+static bool refused_for_turn(const struct call *call, uint32_t answer)
+{
+    static struct state other;
+    struct plain_reply reply;
+
+    if (answer != UPLINK_REFUSED_FORM || state.record.turn < PLAIN_FLOWS)
+        return false;
+    other = state;
+    other.record.turn = 0;
+    if (call->kind == ARRIVAL)
+        return plain_arrival(call->flow, call->length, call->handle, &other.record, other.lengths, UPLINK_PLACES,
+                             other.handles, UPLINK_PLACES) != PLAIN_BAD_FORM;
+    return plain_pick(&other.record, other.lengths, UPLINK_PLACES, other.handles, UPLINK_PLACES, &reply)
+        != PLAIN_BAD_FORM;
+}
+
 /* Makes the call and counts its answer; ends the run at a difference. */
 static uint32_t try_call(const struct call *call)
 {
@@ -48,7 +66,9 @@ static uint32_t try_call(const struct call *call)
     compared++;
     counts[call->kind][outcome.answer]++;
     leaps += outcome.leapt;
+    turned += outcome.turned;
     headers_refused += refused_for_header(call, outcome.answer);
+    turns_refused += refused_for_turn(call, outcome.answer);
     if (compared % (wanted < 10 ? 1 : wanted / 10) == 0) {
         printf("%" PRIu64 " of %" PRIu64 " calls agree\n", compared, wanted);
         fflush(stdout);
@@ -279,12 +299,13 @@ static bool enough_depths(uint64_t needed)
         && depths[UPLINK_REFUSED_RECORD] >= needed && depths[UPLINK_REFUSED_REPLY] >= needed;
 }
 
-/* True where every answer, leaps and headers that were refused came up often enough. */
+/* True where every answer, leaps, turns that decided, and headers and turns that were refused came up often enough. */
 static bool report(void)
 {
     static const uint32_t answers[] = {0, 1, 2, 3, 4, 5, 6, 7, 8, 9, 10, UPLINK_IDLE, 101, 102};
     uint64_t needed = wanted < 1000000 ? wanted / 1000 : 1000;
-    bool enough = leaps >= needed && headers_refused >= needed && enough_depths(needed);
+    bool enough = leaps >= needed && turned >= needed && headers_refused >= needed && turns_refused >= needed
+        && enough_depths(needed);
 
     printf("%8s %10s %10s %10s %10s %10s\n", "answer", "opening", "arrival", "pick", "depth", "all");
     for (size_t i = 0; i < sizeof answers / sizeof *answers; i++) {
@@ -296,9 +317,12 @@ static bool report(void)
         enough = enough && count(answer) >= needed;
     }
     printf("%8s %10s %10s %10" PRIu64 "\n", "leaps", "", "", leaps);
+    printf("%8s %10s %10s %10" PRIu64 "   of equal tags not the lowest number\n", "turned", "", "", turned);
     printf("%8s %10" PRIu64 "   refused for the header alone\n", "headers", headers_refused);
+    printf("%8s %10" PRIu64 "   refused for the turn alone\n", "turns", turns_refused);
     if (!enough)
-        printf("an answer, a leap or a refused header came up fewer than %" PRIu64 " times\n", needed);
+        printf("an answer, a leap, a turn that decided, or a header or turn refused came up fewer than %" PRIu64
+               " times\n", needed);
     return enough;
 }
 

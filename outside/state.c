@@ -8,8 +8,8 @@
 #define BEYOND_TWO62 1127206080 /* the widest leap, and 720 ticks for each byte of the greatest charge */
 #define CLOCK_END (TWO62 + BEYOND_TWO62)
 
-/* Where the words of the tags and of the four fields begin. */
-enum { TAGS = 3, SHARES = 67, LARGEST = 83, FIRSTS = 99, WAITING = 115 };
+/* Where the words of the tags and of the four fields begin, and the word of the turn. */
+enum { TAGS = 3, SHARES = 67, LARGEST = 83, FIRSTS = 99, WAITING = 115, TURN = 131 };
 
 static void put_entry(uint64_t *field, size_t f, uint16_t entry)
 {
@@ -27,6 +27,7 @@ void to_words(const struct plain_record *record, uint64_t words[UPLINK_RECORD_WO
     words[0] = record->flows | (uint64_t)record->header << 16 | (uint64_t)record->leap << 32;
     words[1] = record->clock;
     words[2] = record->link;
+    words[TURN] = record->turn;
     for (size_t f = 0; f < PLAIN_FLOWS; f++) {
         const struct plain_flow *flow = &record->flow[f];
 
@@ -45,6 +46,7 @@ void from_words(struct plain_record *record, const uint64_t words[UPLINK_RECORD_
     record->leap = (uint32_t)(words[0] >> 32);
     record->clock = words[1];
     record->link = words[2];
+    record->turn = words[TURN];
     for (size_t f = 0; f < PLAIN_FLOWS; f++) {
         struct plain_flow *flow = &record->flow[f];
 
@@ -115,6 +117,16 @@ static uint64_t make_tag(const struct plain_record *record, bool waits)
     }
 }
 
+/* A turn of a record with so many flows: at one of them, just past the last, or any. */
+static uint64_t make_turn(uint32_t flows)
+{
+    switch (below(4)) {
+    case 0: return spread(63);
+    case 1: return flows % PLAIN_FLOWS;
+    default: return spread(flows - 1);
+    }
+}
+
 static void fill_ring(struct state *state, uint32_t f, bool tidy)
 {
     struct plain_flow *flow = &state->record.flow[f];
@@ -166,6 +178,7 @@ void make_built(struct state *state)
     record->leap = widest(record);
     record->clock = make_clock();
     record->link = record->clock - spread(record->clock);
+    record->turn = make_turn(flows);
     for (uint32_t f = 0; f < flows; f++) {
         struct plain_flow *flow = &record->flow[f];
 
@@ -185,6 +198,8 @@ void make_blank(struct state *state)
         state->record.clock = make_clock();
     if (one_in(2))
         state->record.link = state->record.clock;
+    if (one_in(2))
+        state->record.turn = spread(63);
 }
 
 void make_noise(struct state *state)
@@ -227,6 +242,17 @@ static void damage_header(struct plain_record *record)
     refit(record);
 }
 
+/* The turn past its end, or another one that is as good: the number of flows is no limit to it. */
+static void damage_turn(struct plain_record *record)
+{
+    const uint64_t turns[] = {0, 1, 62, 63, 64, 65, 127, 128, 255, 256, UINT16_MAX, UINT16_MAX + 1, UINT32_MAX,
+                              UINT64_C(1) << 32, UINT64_C(1) << 63, UINT64_MAX - 63, UINT64_MAX, record->flows - 1,
+                              record->flows, record->flows + 1, record->turn - 1, record->turn + 1, record->turn + 64,
+                              record->turn + (UINT64_C(1) << 32), dice()};
+
+    record->turn = ONE_OF(turns);
+}
+
 static void damage_head(struct plain_record *record)
 {
     const uint16_t flows[] = {0, 1, 64, 65, 128, 256, 32768, UINT16_MAX, (uint16_t)(record->flows - 1),
@@ -237,12 +263,13 @@ static void damage_head(struct plain_record *record)
                                record->clock + 1, UINT64_MAX - spread(4000000000)};
     const uint64_t links[] = {0, record->clock - 1, record->clock, record->clock + 1, TWO62, UINT64_MAX, dice()};
 
-    switch (below(7)) {
+    switch (below(8)) {
     case 0: record->flows = ONE_OF(flows); break;
     case 1: record->leap = ONE_OF(leaps); break;
     case 2: record->clock = ONE_OF(clocks); break;
     case 3: record->link = ONE_OF(links); break;
     case 4: case 5: damage_header(record); break;
+    case 6: damage_turn(record); break;
     default: /* the clock with all that hangs on it */
         record->clock = ONE_OF(clocks);
         record->link = ONE_OF(links);

@@ -15,7 +15,7 @@ struct state {
 
 /* The block's layout: word 0 is flows + 2^16 header + 2^32 leap width, word 1 the clock, word 2 the link time; words 3
  * to 66 are the tags; then 16 words each for shares, largest packets, firsts and numbers waiting, four flows to a
- * word. Flows and header are below 2^16 in every record here. */
+ * word; word 131 is the turn. Flows and header are below 2^16 in every record here. */
 void to_words(const struct plain_record *record, uint64_t words[UPLINK_RECORD_WORDS]);
 void from_words(struct plain_record *record, const uint64_t words[UPLINK_RECORD_WORDS]);
 
@@ -25,7 +25,7 @@ uint32_t make_flows(void);
 uint32_t make_header(void);
 
 void make_built(struct state *state);  /* well formed, with many fields at their limits */
-void make_blank(struct state *state);  /* no flow at all: zeros, but for the clocks */
+void make_blank(struct state *state);  /* no flow at all: zeros, but for the clocks and the turn */
 void make_noise(struct state *state);  /* any words at all */
 void damage(struct state *state);      /* one field or word is set to, or past, a limit */
 
