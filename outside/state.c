@@ -263,13 +263,13 @@ static void damage_head(struct plain_record *record)
                                record->clock + 1, UINT64_MAX - spread(4000000000)};
     const uint64_t links[] = {0, record->clock - 1, record->clock, record->clock + 1, TWO62, UINT64_MAX, dice()};
 
-    switch (below(8)) {
+    switch (below(10)) {
     case 0: record->flows = ONE_OF(flows); break;
     case 1: record->leap = ONE_OF(leaps); break;
     case 2: record->clock = ONE_OF(clocks); break;
     case 3: record->link = ONE_OF(links); break;
     case 4: case 5: damage_header(record); break;
-    case 6: damage_turn(record); break;
+    case 6: case 7: case 8: damage_turn(record); break;
     default: /* the clock with all that hangs on it */
         record->clock = ONE_OF(clocks);
         record->link = ONE_OF(links);
