@@ -7,9 +7,10 @@ After each call the answer, every word of the record and of the reply and every 
 Stops at the first difference.
 
 CALLS calls are random traffic with headers, from openings. One arrival or pick in ten is made on a record whose header
-is damaged, half of them with a leap width that fits it again. One call in a hundred is lent a record or a reply that is
-a word too long or too short. With the plain engine half as many calls more are made on records that were perhaps never
-opened, half of them damaged. In ten thousand calls or more, all that is counted has to come up.
+is damaged, half of them with a leap width that fits it again, and one in ten of the others on a record whose turn is
+damaged. One call in a hundred is lent a record or a reply that is a word too long or too short. With the plain engine
+half as many calls more are made on records that were perhaps never opened, half of them damaged. In ten thousand calls
+or more, all that is counted has to come up.
 """
 
 import ctypes
@@ -32,9 +33,11 @@ IDLE, REFUSED_RECORD, REFUSED_REPLY = 100, 101, 102
 REPLY_BEFORE = [2**64 - 1, 0, 1, 2, 3, 4]
 CALLS_OF_ONE_KIND = 200
 CALLS_ON_ONE_RECORD = 2
-PERCENT_DAMAGED_HEADERS, PERCENT_DAMAGED_RECORDS, PERCENT_MISFITS, PERCENT_REOPENED = 10, 50, 1, 5
+PERCENT_DAMAGED_HEADERS, PERCENT_DAMAGED_TURNS, PERCENT_DAMAGED_RECORDS = 10, 10, 50
+PERCENT_MISFITS, PERCENT_REOPENED = 1, 5
 CALLS_ENOUGH = 10_000
-COUNTED = ["refused headers", "refused damaged headers", "leaps with a header", "answers 101", "answers 102"]
+COUNTED = ["refused headers", "refused damaged headers", "refused damaged turns", "leaps with a header",
+           "ties won by a higher number", "answers 101", "answers 102"]
 ANSWERS = [f"answers {number}" for number in [*range(1, 11), IDLE]]
 
 # Tables to open in place of a record: one that is taken, and then refusals 3, 4, 5 and 6.
@@ -44,9 +47,9 @@ TABLES = [([500, 500], [100, 1500]), ([], []), ([1, 0], [1, 1]), ([1, 1], [1, 15
 # the order of outside/state.h, with those of `last_fields` behind them. `maker` makes records that were perhaps never
 # opened; `counted` has to come up.
 Engine = namedtuple("Engine", "name calls block last_fields maker counted")
-FIRST = Engine("uplink", uplink.FIRST_ENGINE, struct.Struct("<HHIQQ64Q64H64H64H64H"), [], None, COUNTED)
-PLAIN = Engine("backward", plain.PLAIN_ENGINE, struct.Struct("<HHIQQ64q64H64H64H64HQ"), ["sum_of_widths"], RecordMaker,
-               [*COUNTED, *ANSWERS, "leaps with a tag below zero"])
+FIRST = Engine("uplink", uplink.FIRST_ENGINE, struct.Struct("<HHIQQ64Q64H64H64H64HQ"), ["turn"], None, COUNTED)
+PLAIN = Engine("backward", plain.PLAIN_ENGINE, struct.Struct("<HHIQQ64q64H64H64H64HQQ"), ["turn", "sum_of_widths"],
+               RecordMaker, [*COUNTED, *ANSWERS, "leaps with a tag below zero"])
 ENGINES = {engine.name: engine for engine in (FIRST, PLAIN)}
 
 # Something lent that is a word too long, or too short where `longer` is not so; `number` is what the call answers.
@@ -150,6 +153,23 @@ def damage_header(dice, record):
         record.leap_width = uplink.leap_width(record) % 2**32
 
 
+def damage(dice, record):
+    """Now and then another header or another turn, and which of the two; else None."""
+    if dice.chance(PERCENT_DAMAGED_HEADERS):
+        damage_header(dice, record)
+        return "headers"
+    if dice.chance(PERCENT_DAMAGED_TURNS):
+        record.turn = traffic.damaged_turn(dice, record.turn)
+        return "turns"
+    return None
+
+
+def lowest_of_smallest_tag(record):
+    """The lowest number of a waiting flow that has the smallest tag; 0 where nothing waits."""
+    tags = [(flow.tag, f) for f, flow in enumerate(record.table()) if flow.waiting > 0]
+    return min(tags, default=(0, 0))[1]
+
+
 def random_misfit(dice, letter):
     """Seldom one, and a reply's only at a pick."""
     if dice.chance(PERCENT_MISFITS):
@@ -158,14 +178,18 @@ def random_misfit(dice, letter):
     return None
 
 
-def things_of(letter, numbers, number, reply, record):
-    """Which of the counted things the call showed, where it was no misfit."""
+def things_of(letter, numbers, number, reply, record, lowest):
+    """Which of the counted things the call showed, where it was no misfit; lowest is lowest_of_smallest_tag before
+    it."""
     if letter == "o":
         return ["refused headers"] if number == 3 and 1 <= len(numbers[0]) <= 64 else []
-    if letter == "a" or number != 0 or reply[4] == 0:
+    if letter == "a" or number != 0:
         return []
+    things = ["ties won by a higher number"] * (reply[0] > lowest)
+    if reply[4] == 0:
+        return things
     below_zero = any(flow.tag < 0 for flow in record.table())
-    return ["leaps with a header"] * (record.header > 0) + ["leaps with a tag below zero"] * below_zero
+    return things + ["leaps with a header"] * (record.header > 0) + ["leaps with a tag below zero"] * below_zero
 
 
 class Run:
@@ -177,13 +201,14 @@ class Run:
 
     def compare(self, state, letter, numbers, misfit=None):
         """The number that is answered. Ends the program at a difference."""
+        lowest = lowest_of_smallest_tag(state.record)
         number, reply, wrong = state.compare(letter, numbers, misfit)
         self.counts["calls"] += 1
         if wrong:
             place = f"call {self.counts['calls']} of seed {self.seed}"
             sys.exit("\n".join([f"{place} differs: {letter} {numbers}", *wrong]))
         self.counts[f"answers {number}"] += 1
-        self.counts.update(things_of(letter, numbers, number, reply, state.record) if misfit is None else [])
+        self.counts.update(things_of(letter, numbers, number, reply, state.record, lowest) if misfit is None else [])
         return number
 
     def one_kind(self, index, most_calls):
@@ -191,14 +216,12 @@ class Run:
         blank, dice = self.engine.calls.blank(), traffic.Dice("damage", self.seed, index)
         state = State(self.engine, self.library, blank, uplink.Memories())
         for letter, *numbers in itertools.islice(traffic.random_calls(self.seed, index), most_calls):
-            good = state.record.header, state.record.leap_width
-            damaged = letter != "o" and dice.chance(PERCENT_DAMAGED_HEADERS)
-            if damaged:
-                damage_header(dice, state.record)
+            good = state.record.header, state.record.leap_width, state.record.turn
+            damaged = damage(dice, state.record) if letter != "o" else None
             number = self.compare(state, letter, numbers, random_misfit(dice, letter))
             if damaged and number in (2, REFUSED_RECORD, REFUSED_REPLY):
-                self.counts["refused damaged headers"] += number == 2 and state.record.number_of_flows > 0
-                state.record.header, state.record.leap_width = good
+                self.counts[f"refused damaged {damaged}"] += number == 2 and state.record.number_of_flows > 0
+                state.record.header, state.record.leap_width, state.record.turn = good
 
     def one_record(self, index, most_calls):
         """Up to most_calls calls on a record that was perhaps never opened."""

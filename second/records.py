@@ -83,8 +83,7 @@ class RecordMaker:
         setattr(record, name, self.dice.one_of(CORNERS + [level, level + 1, level - min(level, 1)]) % 2**64)
 
     def damage_turn(self, record, _flow):
-        """Past its end, or another one that is none the worse."""
-        record.turn = self.dice.one_of([0, 1, 62, 63, 64, 65, 127, 128, 255, 256, 65_536, record.turn + 64, *CORNERS])
+        record.turn = traffic.damaged_turn(self.dice, record.turn)
 
     def damage_the_rest(self, record, flow):
         name, numbers = self.dice.one_of([

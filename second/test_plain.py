@@ -248,7 +248,7 @@ class SideBySide(Comparison):
         for index in range(40):
             record, memories = plain.Record(), uplink.Memories()
             first_record, first_memories = uplink.Record(), uplink.Memories()
-            for call in itertools.islice(traffic.random_calls("plain", index), 120):
+            for call in itertools.islice(traffic.random_calls("both engines", index), 120):
                 was_open = record != plain.Record()
                 record, first_record, reply = self.compare(record, memories, first_record, first_memories, call)
                 self.assertEqual(record.link_time, record.clock)

@@ -429,6 +429,12 @@ def damaged_header(dice, header):
     return dice.one_of([0, 1, 12, 63, 64, 65, 128, 255, 256, 32_768, 65_535, header + 1])
 
 
+def damaged_turn(dice, turn):
+    """What a record's 64 bits for the turn may come to hold; now and then it is a good one."""
+    return dice.one_of([0, 1, 8, 9, 62, 63, turn + 1, dice.below(64), 64, 65, 127, 255, 256, 65_536, turn + 64, 2**32,
+                        2**63, 2**64 - 64, 2**64 - 1]) % 2**64
+
+
 def random_calls(seed, index):
     """Calls without an end: "o", shares, largest packets, header; "a", flow, length, handle; "p".
     Half of the openings come after one whose header is refused."""
