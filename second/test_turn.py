@@ -167,7 +167,7 @@ class Turn(test_uplink.Document):
 
     def test_any_well_formed_record(self):
         ties = 0
-        for index in range(900):
+        for index in range(400):
             maker = RecordMaker("turn", index)
             record = self.of_this_engine(maker.well_formed())
             before, equals = record.turn, waiting_flows_of_smallest_tag(record)
@@ -180,7 +180,7 @@ class Turn(test_uplink.Document):
                 ties += expected != equals[0]
             else:
                 self.assertEqual(((10, 0), before), (reply, record.turn))
-        self.assertGreater(ties, 20)
+        self.assertGreater(ties, 10)
 
     def of_this_engine(self, record):
         return plain.raised(record)
@@ -252,14 +252,14 @@ class RandomRuns(unittest.TestCase):
                 last = 63
         return found
 
-    def faults(self, number_of_runs=8):
+    def faults(self, number_of_runs=4):
         return [fault for engine in (uplink.FIRST_ENGINE, plain.PLAIN_ENGINE) for kind in self.kinds
                 for index in range(number_of_runs) for fault in self.faults_of_a_run(engine, kind, index)]
 
     def test_the_flow_picked_last_loses_every_tie(self):
         found = self.faults()
         self.assertEqual({"last in a tie"}, set(found))
-        self.assertGreater(len(found), 100)
+        self.assertGreater(len(found), 50)
 
     def test_other_choices_are_found_out(self):
         every_kind = {"last in a tie", "the last one wins a tie", "not the first after the last"}
