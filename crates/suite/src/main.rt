@@ -19,7 +19,7 @@ fn all() {
     let names = b"examples\nrows\nbad-lines\n\
         share-zero\nshare-one\nshare-thousand\nsum-thousand\nsum-over\nlargest-zero\nlargest-over\n\
         even\ncamera\nleaps\nties\nfull\nreopened\nrefused\ndamaged\nlimits\n\
-        bursts\nidle\nnumbers\nsingle\nedges\nexact\nhalves\nworsened\n";
+        bursts\nidle\nnumbers\nsingle\nedges\nexact\nhalves\nworsened\nflow-nine\nturns\n";
     each(names);
 }
 
