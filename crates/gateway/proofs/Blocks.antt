@@ -4,14 +4,14 @@ use mathlib.Core.Path.{_≡_, refl, sym, ap, _∙_}
 use mathlib.Core.Bool.{Bool, true, false, cond}
 use mathlib.Core.List.{List, [], _∷_, _++_, append-assoc, append-nil}
 use Prim.Native.Nat.{ℕ, zero, suc, _+_, _*_, _/_, _%_, _^_, _≤_, _<_}
-use native.Mathlib.Nat.{zero-add}
+use native.Mathlib.Nat.{zero-add, suc-add}
 use native.Mathlib.Omega.{arith}
-use lib.ListN.{length, getD, set, drop, replicate}
-use lib.Seq.{drop-length, getD-take, getD-drop, sets, sets-eq}
+use lib.ListN.{length, getD, set, drop, replicate, length-set}
+use lib.Seq.{drop-cons, drop-length, getD-take, getD-drop, sets, sets-eq}
 use mir.Val.{boolByte}
 use borrow.Rule.Slice.PartMut.{putMid}
 use Rattle.below.specs.Copied.{Copied, copied-more}
-use Rattle.below.specs.Filled.{Filled, filled-more}
+use Rattle.below.specs.Filled.{Filled, filled-length, filled-more}
 use Rattle.reply.specs.Reply.{done, packet}
 use Rattle.queues.specs.Queues.{queuesOf}
 use Rattle.queues.specs.Opening.{field64}
@@ -46,11 +46,11 @@ entries-more words k field h c =
     (next-entry words (4 * k) (4 * k + 1) field _ (omega arith) (omega arith)
     (sym (ap (λ n. getD (fieldIn words) n 0) z ∙ entry words k 0 h (omega arith))) c)))
 
--- the five words of a step
+-- the six words of a step
 pub step-made : (words : List ℕ) (r : Record) (f : ℕ) (tag : ServerTicks) (first waiting : ℕ) → tag .0 ≡ tagOf r f
     → first ≡ fourAt (r .queues .first) (f / 4) → waiting ≡ fourAt (r .queues .waiting) (f / 4)
-    → set (set (set (set (set words 1 (r .clock .0)) 2 (r .link .0)) (3 + f) (tag .0)) (99 + f / 4) first)
-    (115 + f / 4) waiting
+    → set (set (set (set (set (set words 1 (r .clock .0)) 2 (r .link .0)) (3 + f) (tag .0)) (99 + f / 4) first)
+    (115 + f / 4) waiting) 131 (r .turn)
     ≡ stepWords words r f
 step-made words r f tag first waiting t a b = rw (t, a, b)
 
@@ -66,10 +66,19 @@ pub record-read : (words tags share largest first waiting : List ℕ) → tags �
       link = linkTime (getD words 2 0);
       tags = tagsOf tags;
       queues = queuesOf share largest first waiting;
+      turn = getD words 131 0;
     }
     ≡ recordOf words
 unfolding recordOf
 record-read words tags share largest first waiting t s l f w = rw (t, s, l, f, w)
+
+-- a store past the first of two lists
+set-right : (xs ys : List ℕ) (k a : ℕ) → set (xs ++ ys) (length xs + k) a ≡ xs ++ set ys k a
+set-right [] ys k a = rw zero-add
+set-right (x ∷ xs) ys k a = rw suc-add (ap (λ l. x ∷ l) (set-right xs ys k a))
+
+pub set-past : (xs ys : List ℕ) (n k i a : ℕ) → length xs ≡ n → n + k ≡ i → set (xs ++ ys) i a ≡ xs ++ set ys k a
+set-past xs ys n k i a h e = rw (← e, ← h) (set-right xs ys k a)
 
 -- the first three words
 head-filled : (w0 : List ℕ) (a b c : ℕ) → 3 ≤ length w0 → Filled w0 3 (a ∷ b ∷ c ∷ []) (set (set (set w0 0 a) 1 b) 2 c)
@@ -78,11 +87,15 @@ head-filled (x ∷ []) a b c h = absurd (omega arith)
 head-filled (x ∷ y ∷ []) a b c h = absurd (omega arith)
 head-filled (x ∷ y ∷ z ∷ rest) a b c h = record { long = refl; room = h; so-far = refl }
 
-regroup : (a b c d e : List ℕ) → a ++ b ++ c ++ d ++ e ≡ a ++ (b ++ (c ++ (d ++ e)))
-regroup a b c d e = append-assoc (a ++ b ++ c) d e ∙ append-assoc (a ++ b) c (d ++ e) ∙ append-assoc a b (c ++ (d ++ e))
+regroup : (a b c d e f : List ℕ) → a ++ b ++ c ++ d ++ e ++ f ≡ a ++ (b ++ (c ++ (d ++ (e ++ f))))
+regroup a b c d e f =
+    append-assoc (a ++ b ++ c ++ d) e f
+    ∙ append-assoc (a ++ b ++ c) d (e ++ f)
+    ∙ append-assoc (a ++ b) c (d ++ (e ++ f))
+    ∙ append-assoc a b (c ++ (d ++ (e ++ f)))
 
 -- a record written part by part
-module _ (w0 : List ℕ) (long : length w0 ≡ 131) (r : Record) where
+module _ (w0 : List ℕ) (long : length w0 ≡ 132) (r : Record) where
   abbrev head : List ℕ
   head = headWord r ∷ r .clock .0 ∷ r .link .0 ∷ []
 
@@ -124,18 +137,29 @@ module _ (w0 : List ℕ) (long : length w0 ≡ 131) (r : Record) where
               filled-more w0 99 _ block3 filled-largest 16 first (rw f (words-length _)) (omega (arith, long))
 
           module _ (waiting : List ℕ) (w : waiting ≡ fieldWords (r .queues .waiting)) where
-            pub filled-all : Filled w0 131 (head ++ tags ++ share ++ largest ++ first ++ waiting)
-                (putMid 115 16 block4 waiting)
-            filled-all =
+            abbrev block5 : List ℕ
+            block5 = putMid 115 16 block4 waiting
+
+            pub filled-waiting : Filled w0 131 (head ++ tags ++ share ++ largest ++ first ++ waiting) block5
+            filled-waiting =
                 filled-more w0 115 _ block4 filled-first 16 waiting (rw w (words-length _)) (omega (arith, long))
 
-            pub record-written : putMid 115 16 block4 waiting ≡ wordsOf r
+            -- and the turn behind them
+            pub record-length : length (set block5 131 (r .turn)) ≡ length w0
+            record-length =
+                length-set block5 131 (r .turn) ∙ filled-length w0 131 _ block5 filled-waiting
+
+            pub record-written : set block5 131 (r .turn) ≡ wordsOf r
             unfolding wordsOf
             record-written =
-                let none : drop 131 w0 ≡ [] = ap (λ n. drop n w0) (sym long) ∙ drop-length w0 in
-                filled-all .so-far ∙ ap (λ rest. head ++ tags ++ share ++ largest ++ first ++ waiting ++ rest) none
-                ∙ append-nil (head ++ tags ++ share ++ largest ++ first ++ waiting)
-                ∙ ap (λ rest. head ++ rest) (regroup tags share largest first waiting) ∙ rw (t, s, l, f, w)
+                let parts = head ++ tags ++ share ++ largest ++ first ++ waiting in
+                let none : drop 132 w0 ≡ [] = ap (λ n. drop n w0) (sym long) ∙ drop-length w0 in
+                let last : drop 131 w0 ≡ getD w0 131 0 ∷ []
+                = drop-cons w0 131 0 (omega (arith, long)) ∙ ap (λ rest. getD w0 131 0 ∷ rest) none in
+                ap (λ l. set l 131 (r .turn)) (filled-waiting .so-far ∙ ap (λ rest. parts ++ rest) last)
+                ∙ set-past parts (getD w0 131 0 ∷ []) 131 0 131 (r .turn) (filled-waiting .long) refl
+                ∙ ap (λ rest. head ++ rest) (regroup tags share largest first waiting (r .turn ∷ []))
+                ∙ rw (t, s, l, f, w)
 
 -- the entry of a word of 64 bits, by a shift
 shifted : (word j : ℕ) → word < 2 ^ 64 → j < 4 → word / 2 ^ (16 * j) % 2 ^ 16 ≡ quarter word j

@@ -34,8 +34,8 @@ use Rattle.gateway.specs.Step.{stepWords, flowIn}
 use Rattle.gateway.proofs.Stepping.{step-whole, step-rested}
 use Rattle.gateway.proofs.Following.{Follows, arrival-follows, pick-follows}
 
--- what an outcome leaves in a block of 131 words
-module _ (block lengths handles : List ℕ) (h : length block ≡ 131) (at : Reply → ℕ) (reply : Reply) (next : Record)
+-- what an outcome leaves in a block of 132 words
+module _ (block lengths handles : List ℕ) (h : length block ≡ 132) (at : Reply → ℕ) (reply : Reply) (next : Record)
     (lengths' handles' : List ℕ)
     (F : Follows (state (recordOf block) lengths handles) at (outcome reply next lengths' handles')) where
   -- the block of the next record
@@ -48,20 +48,20 @@ module _ (block lengths handles : List ℕ) (h : length block ≡ 131) (at : Rep
   block-idle tags t = step-rested block tags next (at reply) h (F .kept) t
 
 module _ (shares largest : List ℕ) (header : ℕ) (block lengths handles : List ℕ) where
-  pub opening-unblocked : (length block ≡ 131 → ⊥)
+  pub opening-unblocked : (length block ≡ 132 → ⊥)
       → answered 101 (lending block lengths handles [])
       ≡ gatewayOpening shares largest header (lending block lengths handles [])
   unfolding gatewayOpening
-  opening-unblocked h = rw (ne-eqb (length block) 131 h)
+  opening-unblocked h = rw (ne-eqb (length block) 132 h)
 
-  module _ (block' lengths' handles' : List ℕ) (reply : OpeningReply) (next : Record) (h : length block ≡ 131)
+  module _ (block' lengths' handles' : List ℕ) (reply : OpeningReply) (next : Record) (h : length block ≡ 132)
       (e : outcome (openingReply reply) next lengths' handles' ≡ openingRule shares largest header lengths handles)
       (b : block' ≡ wordsOf next) where
     opening-told : (answer : ℕ) → answer ≡ withFlow (openingReply reply) → [] ≡ valuesOr (openingReply reply) []
         → answered answer (lending block' lengths' handles' [])
         ≡ gatewayOpening shares largest header (lending block lengths handles [])
     unfolding gatewayOpening
-    opening-told answer a w = rw (eq-eqb (length block) 131 h)
+    opening-told answer a w = rw (eq-eqb (length block) 132 h)
         (outcome-told wordsOf withFlow (lending block lengths handles []) _ next lengths' handles' _ e answer block' []
         a b w)
 
@@ -78,13 +78,13 @@ module _ (shares largest : List ℕ) (header : ℕ) (block lengths handles : Lis
     opening-done q = opening-told 0 (rw q) (rw q)
 
 module _ (flow bytes handle : ℕ) (block lengths handles : List ℕ) where
-  pub arrival-unblocked : (length block ≡ 131 → ⊥)
+  pub arrival-unblocked : (length block ≡ 132 → ⊥)
       → answered 101 (lending block lengths handles [])
       ≡ gatewayArrival flow bytes handle (lending block lengths handles [])
   unfolding gatewayArrival
-  arrival-unblocked h = rw (ne-eqb (length block) 131 h)
+  arrival-unblocked h = rw (ne-eqb (length block) 132 h)
 
-  module _ (block' lengths' handles' : List ℕ) (reply : ArrivalReply) (held next : Record) (h : length block ≡ 131)
+  module _ (block' lengths' handles' : List ℕ) (reply : ArrivalReply) (held next : Record) (h : length block ≡ 132)
       (r : held ≡ recordOf block)
       (e : outcome (arrivalReply reply) next lengths' handles'
       ≡ arrivalRule (state held lengths handles) flow bytes handle)
@@ -98,7 +98,7 @@ module _ (flow bytes handle : ℕ) (block lengths handles : List ℕ) where
         → answered answer (lending block' lengths' handles' [])
         ≡ gatewayArrival flow bytes handle (lending block lengths handles [])
     unfolding gatewayArrival
-    arrival-told answer a w busy = rw (eq-eqb (length block) 131 h, ← r)
+    arrival-told answer a w busy = rw (eq-eqb (length block) 132 h, ← r)
         (outcome-told wordsOf numberOf (lending block lengths handles []) _ next lengths' handles' _ e answer block' []
         a (b ∙ block-busy block lengths handles h (λ _. flow % 64) (arrivalReply reply) next lengths' handles' follows
         busy) w)
@@ -117,18 +117,18 @@ module _ (flow bytes handle : ℕ) (block lengths handles : List ℕ) where
     arrival-done q = arrival-told 0 (rw q) (rw q) (λ z. idle-done (sym z ∙ ap arrivalReply q))
 
 module _ (block lengths handles reply : List ℕ) where
-  pub pick-unblocked : (length block ≡ 131 → ⊥)
+  pub pick-unblocked : (length block ≡ 132 → ⊥)
       → answered 101 (lending block lengths handles reply) ≡ gatewayPick (lending block lengths handles reply)
   unfolding gatewayPick
-  pick-unblocked h = rw (ne-eqb (length block) 131 h)
+  pick-unblocked h = rw (ne-eqb (length block) 132 h)
 
-  pub pick-unreplied : length block ≡ 131 → (length reply ≡ 6 → ⊥)
+  pub pick-unreplied : length block ≡ 132 → (length reply ≡ 6 → ⊥)
       → answered 102 (lending block lengths handles reply) ≡ gatewayPick (lending block lengths handles reply)
   unfolding gatewayPick
-  pick-unreplied h k = rw (eq-eqb (length block) 131 h, ne-eqb (length reply) 6 k)
+  pick-unreplied h k = rw (eq-eqb (length block) 132 h, ne-eqb (length reply) 6 k)
 
   module _ (block' lengths' handles' : List ℕ) (answer : PickReply) (held next : Record) (f : ℕ)
-      (h : length block ≡ 131)
+      (h : length block ≡ 132)
       (k : length reply ≡ 6) (r : held ≡ recordOf block)
       (e : outcome (pickReply answer) next lengths' handles' ≡ pickRule (state held lengths handles))
       (g : f ≡ flowIn (pickReply answer)) (b : block' ≡ stepWords block next f) where
@@ -140,7 +140,7 @@ module _ (block lengths handles reply : List ℕ) where
         → reply' ≡ valuesOr (pickReply answer) reply
         → answered number (lending words lengths' handles' reply') ≡ gatewayPick (lending block lengths handles reply)
     unfolding gatewayPick
-    pick-told number words reply' n b w = rw (eq-eqb (length block) 131 h, eq-eqb (length reply) 6 k, ← r)
+    pick-told number words reply' n b w = rw (eq-eqb (length block) 132 h, eq-eqb (length reply) 6 k, ← r)
         (outcome-told wordsOf numberOf (lending block lengths handles reply) _ next lengths' handles' _ e number words
         reply' n b w)
 
@@ -173,22 +173,22 @@ module _ (block lengths handles reply : List ℕ) where
         (ap (λ a. valuesOr a reply) sent)
 
 module _ (flow : ℕ) (block reply : List ℕ) where
-  pub depth-unblocked : (length block ≡ 131 → ⊥)
+  pub depth-unblocked : (length block ≡ 132 → ⊥)
       → answered 101 (lending block [] [] reply) ≡ gatewayDepth flow (lending block [] [] reply)
   unfolding gatewayDepth
-  depth-unblocked h = rw (ne-eqb (length block) 131 h)
+  depth-unblocked h = rw (ne-eqb (length block) 132 h)
 
-  pub depth-unreplied : length block ≡ 131 → (length reply ≡ 4 → ⊥)
+  pub depth-unreplied : length block ≡ 132 → (length reply ≡ 4 → ⊥)
       → answered 102 (lending block [] [] reply) ≡ gatewayDepth flow (lending block [] [] reply)
   unfolding gatewayDepth
-  depth-unreplied h k = rw (eq-eqb (length block) 131 h, ne-eqb (length reply) 4 k)
+  depth-unreplied h k = rw (eq-eqb (length block) 132 h, ne-eqb (length reply) 4 k)
 
-  module _ (h : length block ≡ 131) (k : length reply ≡ 4) where
+  module _ (h : length block ≡ 132) (k : length reply ≡ 4) where
     depth-told : (number : ℕ) (reply' : List ℕ) (given : Reply) → given ≡ depthReply (recordOf block) flow
         → number ≡ numberOf given → reply' ≡ valuesOr given reply
         → answered number (lending block [] [] reply') ≡ gatewayDepth flow (lending block [] [] reply)
     unfolding gatewayDepth
-    depth-told number reply' given e n w = rw (eq-eqb (length block) 131 h, eq-eqb (length reply) 4 k)
+    depth-told number reply' given e n w = rw (eq-eqb (length block) 132 h, eq-eqb (length reply) 4 k)
         (outcome-told wordsOf numberOf (lending block [] [] reply) given (recordOf block) [] [] _
         (ap (λ a. outcome a (recordOf block) [] []) e) number block reply' n (sym (words-of-record block h)) w)
 

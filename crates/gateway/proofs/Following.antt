@@ -82,13 +82,15 @@ module _ (s : State) (at : Reply → ℕ) where
       }
 
   -- one flow is put anew, with its bookings as they were
-  follows-put : (values : List ℕ) (clock : ServerTicks) (link : LinkTicks) (f : ℕ) (w : Flow) (lengths handles : List ℕ)
+  follows-put : (values : List ℕ) (clock : ServerTicks) (link : LinkTicks) (turn f : ℕ) (w : Flow)
+      (lengths handles : List ℕ)
       → Rows (s .held) → f < 64 → at (done values) ≡ f → w .queue .share ≡ flowAt (s .held) f .queue .share
       → w .queue .largest ≡ flowAt (s .held) f .queue .largest
       → Follows s at
-      (outcome (done values) (put (with (s .held) clock link (s .held .tags) (s .held .queues)) f w) lengths handles)
+      (outcome (done values) (put (with (s .held) clock link (s .held .tags) (s .held .queues) turn) f w) lengths
+      handles)
   unfolding put putQueue
-  follows-put values clock link f w lengths handles R h e share largest = let r = s .held in
+  follows-put values clock link turn f w lengths handles R h e share largest = let r = s .held in
       record {
         kept = rw e record {
           below = h;
@@ -123,7 +125,7 @@ module _ (s : State) (R : Rows (s .held)) (f n handle : ℕ) where
   joined-follows few = let w = flowAt (s .held) f .queue in
       join-cases (s .held .flows) f n (w .largest) (w .waiting)
       (λ reply. Follows s (λ _. f % 64) (unlessRefused reply s (storeRule s f n handle)))
-      (λ taken. follows-put s (λ _. f % 64) [] _ _ f _ _ _ R (omega (arith, taken .counted, few))
+      (λ taken. follows-put s (λ _. f % 64) [] _ _ _ f _ _ _ R (omega (arith, taken .counted, few))
       (omega (arith, taken .counted, few)) refl refl)
       (λ number _ _. follows-refused s (λ _. f % 64) number 0 (omega arith))
 
@@ -142,7 +144,8 @@ module _ (s : State) (R : Rows (s .held)) where
       let lead = leadOf (s .held) in
       let below = lead-smallest (s .held) e .counts in
       follows-else s flowIn (ltb (s .held .clock .0) clockLimit) 10 (omega arith) λ _.
-      follows-put s flowIn _ _ _ (lead .flow) _ _ _ R (omega (arith, below, few)) (omega (arith, below, few)) refl refl
+      follows-put s flowIn _ _ _ _ (lead .flow) _ _ _ R (omega (arith, below, few)) (omega (arith, below, few)) refl
+      refl
 
   pub pick-follows : Follows s flowIn (pickRule s)
   unfolding chooseRule

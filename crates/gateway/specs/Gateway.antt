@@ -1,5 +1,5 @@
 -- What the four calls of include/uplink.h answer, and what they leave in all that is lent: the rules of document 01
--- with document 02 a)'s header, and that of a depth, over the record that the block is the image of.
+-- with document 02 a)'s header and e)'s turn, and that of a depth, over the record that the block is the image of.
 -- Assumes nothing.
 use mathlib.Core.Bool.{Bool, cond}
 use mathlib.Core.List.{List}
@@ -80,15 +80,15 @@ replied words lent on = demand (eqb (length (lent .reply)) words) 102 lent on
 
 unfoldable pub gatewayOpening : List ℕ → List ℕ → ℕ → Lent → Answered
 gatewayOpening shares largest header lent =
-    blocked 131 lent (told wordsOf withFlow (openingRule shares largest header (lent .lengths) (lent .handles)) lent)
+    blocked 132 lent (told wordsOf withFlow (openingRule shares largest header (lent .lengths) (lent .handles)) lent)
 
 unfoldable pub gatewayArrival : ℕ → ℕ → ℕ → Lent → Answered
 gatewayArrival flow length handle lent =
-    blocked 131 lent (told wordsOf numberOf (arrivalRule (held lent) flow length handle) lent)
+    blocked 132 lent (told wordsOf numberOf (arrivalRule (held lent) flow length handle) lent)
 
 unfoldable pub gatewayPick : Lent → Answered
-gatewayPick lent = blocked 131 lent (replied 6 lent (told wordsOf numberOf (pickRule (held lent)) lent))
+gatewayPick lent = blocked 132 lent (replied 6 lent (told wordsOf numberOf (pickRule (held lent)) lent))
 
 unfoldable pub gatewayDepth : ℕ → Lent → Answered
 gatewayDepth flow lent =
-    blocked 131 lent (replied 4 lent (told wordsOf numberOf (depthRule (held lent) flow) lent))
+    blocked 132 lent (replied 4 lent (told wordsOf numberOf (depthRule (held lent) flow) lent))

@@ -1,10 +1,10 @@
--- The record as the caller of the library keeps it: a block of 131 words of 64 bits, in the record's own order.
+-- The record as the caller of the library keeps it: a block of 132 words of 64 bits, in the record's own order.
 -- Word 0 is the number of flows in its low 16 bits, the header in the next 16 and the leap width in the high 32; word 1
 -- is the clock, word 2 the link time; words 3 to 66 are the tags of flows 0 to 63; words 67 to 82 are the shares, 83 to
 -- 98 the largest packets, 99 to 114 the first places and 115 to 130 the numbers waiting, four flows to a word, 16 bits
--- each, the lowest flow lowest.
+-- each, the lowest flow lowest; word 131 is the turn (02 e).
 -- Assumes nothing.
-use mathlib.Core.List.{List, _∷_, _++_}
+use mathlib.Core.List.{List, [], _∷_, _++_}
 use Prim.Native.Nat.{ℕ, zero, suc, _+_, _*_, _/_, _%_, _^_}
 use lib.ListN.{getD, take, drop}
 use Rattle.below.specs.Listed.{listed}
@@ -49,7 +49,8 @@ wordsOf r =
     ++ (fieldWords (r .queues .share)
     ++ (fieldWords (r .queues .largest)
     ++ (fieldWords (r .queues .first)
-    ++ fieldWords (r .queues .waiting)))))
+    ++ (fieldWords (r .queues .waiting)
+    ++ r .turn ∷ [])))))
 
 -- n words from word a on
 abbrev pub part : List ℕ → ℕ → ℕ → List ℕ
@@ -71,4 +72,5 @@ recordOf words =
           (fieldIn (part words 83 16))
           (fieldIn (part words 99 16))
           (fieldIn (part words 115 16));
+      turn = getD words 131 0;
     }

@@ -1,13 +1,13 @@
--- Words and record undo each other: a record whose fields fit their types is told by its 131 words, and any 131 words
+-- Words and record undo each other: a record whose fields fit their types is told by its 132 words, and any 132 words
 -- are those of the record that they tell.
 -- Assumes nothing.
 use mathlib.Core.Path.{_≡_, refl, sym, ap, _∙_}
-use mathlib.Core.List.{List, _∷_, _++_}
+use mathlib.Core.List.{List, [], _∷_, _++_}
 use Prim.Native.Nat.{ℕ, zero, suc, _+_, _*_, _/_, _%_, _^_, _≤_, _<_}
 use native.Mathlib.Nat.{zero-add}
 use native.Mathlib.Omega.{arith}
 use lib.ListN.{length, getD, drop, length-drop, take-append-drop}
-use lib.Seq.{ext-getD, take-all, drop-cons, drop-drop, length-take-le, take-at, drop-at}
+use lib.Seq.{ext-getD, getD-drop, drop-cons, drop-drop, drop-length, length-take-le, take-at, drop-at}
 use Rattle.below.specs.Listed.{listed-at, length-listed}
 use Rattle.queues.specs.Opening.{field64}
 use Rattle.queues.specs.Laws.{field-at, field-length}
@@ -68,21 +68,23 @@ part-length words a n h = length-take-le n (drop a words) (rw length-drop (omega
 part-on : (words : List ℕ) (a n e : ℕ) → a + n ≡ e → part words a n ++ drop e words ≡ drop a words
 part-on words a n e h = rw (← h, ← drop-drop n a words) (take-append-drop n (drop a words))
 
-module _ (words : List ℕ) (h : length words ≡ 131) where
+module _ (words : List ℕ) (h : length words ≡ 132) where
   -- the tags of a block are 64
   pub tags-long : length (part words 3 64) ≡ 64
   tags-long = part-length words 3 64 (omega (arith, h))
 
   -- the parts of a block, one after the other
   parts : getD words 0 0 ∷ getD words 1 0 ∷ getD words 2 0
-      ∷ (part words 3 64 ++ (part words 67 16 ++ (part words 83 16 ++ (part words 99 16 ++ part words 115 16))))
+      ∷ (part words 3 64 ++ (part words 67 16 ++ (part words 83 16 ++ (part words 99 16 ++ (part words 115 16
+      ++ getD words 131 0 ∷ [])))))
       ≡ words
   parts =
-      let last : part words 115 16 ≡ drop 115 words = take-all 16 (drop 115 words)
-      (rw length-drop (omega (arith, h))) in
-      ap (λ l. getD words 0 0 ∷ getD words 1 0 ∷ getD words 2 0
-      ∷ (part words 3 64 ++ (part words 67 16 ++ (part words 83 16 ++ (part words 99 16 ++ l))))) last
-      ∙ rw (
+      let none : drop 132 words ≡ [] = ap (λ n. drop n words) (sym h) ∙ drop-length words in
+      let last : getD words 131 0 ∷ [] ≡ drop 131 words
+      = ap (λ rest. getD words 131 0 ∷ rest) (sym none) ∙ sym (drop-cons words 131 0 (omega (arith, h))) in
+      rw (
+        last,
+        part-on words 115 16 131 refl,
         part-on words 99 16 115 refl,
         part-on words 83 16 99 refl,
         part-on words 67 16 83 refl,
@@ -92,7 +94,7 @@ module _ (words : List ℕ) (h : length words ≡ 131) where
         ← drop-cons words 0 0 (omega (arith, h)),
       )
 
-  -- any 131 words are the block of the record that they tell
+  -- any 132 words are the block of the record that they tell
   pub words-of-record : wordsOf (recordOf words) ≡ words
   unfolding wordsOf recordOf
   words-of-record =
@@ -166,11 +168,15 @@ record-of-words r F =
     let largest = fieldWords (r .queues .largest) in
     let first = fieldWords (r .queues .first) in
     let waiting = fieldWords (r .queues .waiting) in
-    let rest = tags ++ (share ++ (largest ++ (first ++ waiting))) in
-    let behind-tags = drop-at tags (share ++ (largest ++ (first ++ waiting))) 64 (field-length (r .tags .0)) in
+    let turn = r .turn ∷ [] in
+    let fields = share ++ (largest ++ (first ++ (waiting ++ turn))) in
+    let rest = tags ++ fields in
+    let behind-tags = drop-at tags fields 64 (field-length (r .tags .0)) in
     let behind-share = drop-on rest share _ 64 16 80 behind-tags (words-length _) refl in
     let behind-largest = drop-on rest largest _ 80 16 96 behind-share (words-length _) refl in
     let behind-first = drop-on rest first _ 96 16 112 behind-largest (words-length _) refl in
+    let behind-waiting = drop-on rest waiting _ 112 16 128 behind-first (words-length _) refl in
+    let last : getD rest 128 0 ≡ r .turn = sym (getD-drop 128 rest 0 0) ∙ ap (λ l. getD l 0 0) behind-waiting in
     let low : headWord r % 2 ^ 16 ≡ r .flows = omega (arith, F .flows) in
     let above : headWord r / 2 ^ 16 ≡ r .header + 2 ^ 16 * r .width = omega (arith, F .flows) in
     let middle : headWord r / 2 ^ 16 % 2 ^ 16 ≡ r .header = rw above (omega (arith, F .header)) in
@@ -183,11 +189,12 @@ record-of-words r F =
       behind-share,
       behind-largest,
       behind-first,
-      take-at tags (share ++ (largest ++ (first ++ waiting))) 64 (field-length (r .tags .0)),
-      take-at share (largest ++ (first ++ waiting)) 16 (words-length _),
-      take-at largest (first ++ waiting) 16 (words-length _),
-      take-at first waiting 16 (words-length _),
-      take-all 16 waiting (omega (arith, words-length (r .queues .waiting))),
+      last,
+      take-at tags fields 64 (field-length (r .tags .0)),
+      take-at share (largest ++ (first ++ (waiting ++ turn))) 16 (words-length _),
+      take-at largest (first ++ (waiting ++ turn)) 16 (words-length _),
+      take-at first (waiting ++ turn) 16 (words-length _),
+      take-at waiting turn 16 (words-length _),
       field-same (r .tags .0) (F .rows .tags),
       field-of-words (r .queues .share) (F .rows .queues .share) (F .share),
       field-of-words (r .queues .largest) (F .rows .queues .largest) (F .largest),

@@ -5,7 +5,7 @@ use mathlib.Core.Bool.{cond}
 use mathlib.Core.List.{List, [], _∷_, _++_}
 use Prim.Native.Nat.{ℕ}
 use lib.Dec.{eqb}
-use lib.ListN.{replicate, getD}
+use lib.ListN.{replicate, getD, set}
 use Rattle.below.specs.Truth.{apart}
 use Rattle.uplink.specs.Calls.{everyRule}
 use Rattle.gateway.specs.Image.{fieldWords, quarter, fieldIn, wordsOf, recordOf}
@@ -18,26 +18,31 @@ fresh words = lending (replicate words 1) (replicate 4096 0) (replicate 4096 0) 
 
 -- and after it, with a reply of so many words: two flows of share 500 and largest packet 100, with no header
 abbrev opened : ℕ → Lent
-opened words = let left = gatewayOpening (500 ∷ 500 ∷ []) (100 ∷ 100 ∷ []) 0 (fresh 131) .left in
+opened words = let left = gatewayOpening (500 ∷ 500 ∷ []) (100 ∷ 100 ∷ []) 0 (fresh 132) .left in
     lending (left .block) (left .lengths) (left .handles) (replicate words 1)
 
--- "record has not exactly UPLINK_RECORD_WORDS words": a block of 130 words is taken for one of 131
-abbrev pub takes130 : List ℕ → List ℕ → ℕ → Lent → Answered
-takes130 shares largest header lent =
+-- and with a packet of 100 bytes waiting in flow 0, and a reply of 6 words
+abbrev waiting : Lent
+waiting = let left = gatewayArrival 0 100 7 (opened 0) .left in
+    lending (left .block) (left .lengths) (left .handles) (replicate 6 1)
+
+-- "record has not exactly UPLINK_RECORD_WORDS words": a block of 131 words is taken for one of 132
+abbrev pub takes131 : List ℕ → List ℕ → ℕ → Lent → Answered
+takes131 shares largest header lent =
     gatewayOpening shares largest header (lending (lent .block ++ 0 ∷ []) (lent .lengths) (lent .handles) (lent .reply))
 
-pub takes-130-differs : takes130 (500 ∷ []) (100 ∷ []) 0 (fresh 130)
-    ≡ gatewayOpening (500 ∷ []) (100 ∷ []) 0 (fresh 130)
+pub takes-131-differs : takes131 (500 ∷ []) (100 ∷ []) 0 (fresh 131)
+    ≡ gatewayOpening (500 ∷ []) (100 ∷ []) 0 (fresh 131)
     → ⊥
 unfolding everyRule told gatewayOpening wordsOf fieldWords
-takes-130-differs = apart (λ a. a .answer) _ _ refl
+takes-131-differs = apart (λ a. a .answer) _ _ refl
 
 -- "The opening takes a header size, 0 to 64, which the record keeps" (02 a): an opening drops it, here a header of 12
 abbrev pub dropsHeader : List ℕ → List ℕ → ℕ → Lent → Answered
 dropsHeader shares largest header lent = gatewayOpening shares largest 0 lent
 
-pub drops-header-differs : dropsHeader (500 ∷ 500 ∷ []) (100 ∷ 100 ∷ []) 12 (fresh 131)
-    ≡ gatewayOpening (500 ∷ 500 ∷ []) (100 ∷ 100 ∷ []) 12 (fresh 131)
+pub drops-header-differs : dropsHeader (500 ∷ 500 ∷ []) (100 ∷ 100 ∷ []) 12 (fresh 132)
+    ≡ gatewayOpening (500 ∷ 500 ∷ []) (100 ∷ 100 ∷ []) 12 (fresh 132)
     → ⊥
 unfolding everyRule told gatewayOpening wordsOf fieldWords
 drops-header-differs = apart (λ a. quarter (getD (a .left .block) 0 0) 1) _ _ refl
@@ -58,6 +63,17 @@ clearsReply lent = let a = gatewayPick lent in
 pub clears-reply-differs : clearsReply (opened 6) ≡ gatewayPick (opened 6) → ⊥
 unfolding everyRule told gatewayOpening gatewayPick wordsOf recordOf fieldWords fieldIn
 clears-reply-differs = apart (λ a. getD (a .left .reply) 0 0) _ _ refl
+
+-- "the turn, 0 to 63: one past the last flow picked" (02 e): a pick leaves the turn's word as it was, here after flow 0
+abbrev pub keepsTurn : Lent → Answered
+keepsTurn lent = let a = gatewayPick lent in
+    answered (a .answer)
+    (lending (set (a .left .block) 131 (getD (lent .block) 131 0)) (a .left .lengths) (a .left .handles)
+    (a .left .reply))
+
+pub keeps-turn-differs : keepsTurn waiting ≡ gatewayPick waiting → ⊥
+unfolding everyRule told gatewayOpening gatewayArrival gatewayPick wordsOf recordOf fieldWords fieldIn
+keeps-turn-differs = apart (λ a. getD (a .left .block) 131 0) _ _ refl
 
 -- "UPLINK_IDLE": a pick on which nothing waits is told as done, with no packet
 abbrev pub idleIsDone : Lent → Answered

@@ -1,4 +1,4 @@
-// The record as a block of 131 words, and back: specs/Image.antt. The words stand in the record's own order.
+// The record as a block of 132 words, and back: specs/Image.antt. The words stand in the record's own order.
 // Word 0 holds the number of flows in its low 16 bits, the header in the next 16 and the leap width in the high 32.
 // Nothing is tested here: any words are a record's, and the form test is in the calls.
 ghost use mathlib.Core.Path.{_≡_};
@@ -66,7 +66,7 @@ fn set_field(field: &mut [u16; 64], all: [u16; 64])
 
 // The record that a block tells.
 pub fn record_of(words: &[u64]) -> Record
-    requires { ⌜ length (now words) ≡ 131 ⌝ }
+    requires { ⌜ length (now words) ≡ 132 ⌝ }
     ensures { λ r. ⌜ r ≡ recordOf (now (words .entry)) ⌝ }
 {
     let mut r = Record::blank();
@@ -80,6 +80,7 @@ pub fn record_of(words: &[u64]) -> Record
     set_field(&mut r.queues.largest, field_in(&words[83..99]));
     set_field(&mut r.queues.first, field_in(&words[99..115]));
     set_field(&mut r.queues.waiting, field_in(&words[115..131]));
+    r.turn = words[131];
     r
 }
 
@@ -128,7 +129,7 @@ pub(crate) fn write_tags(tags: &[u64; 64], words: &mut [u64])
 
 // The block of a record.
 pub fn write_record(r: Record, words: &mut [u64])
-    requires { ⌜ length (now words) ≡ 131 ⌝ }
+    requires { ⌜ length (now words) ≡ 132 ⌝ }
     ensures { λ _. ⌜ now (words .exit) ≡ wordsOf r ⌝ }
 {
     words[0] = r.flows as u64 + 65536 * (r.header as u64) + 4294967296 * (r.width as u64);
@@ -139,11 +140,12 @@ pub fn write_record(r: Record, words: &mut [u64])
     write_field(&r.queues.largest, &mut words[83..99]);
     write_field(&r.queues.first, &mut words[99..115]);
     write_field(&r.queues.waiting, &mut words[115..131]);
+    words[131] = r.turn;
 }
 
-// The words that a step of `flow` changes in a block: five.
+// The words that a step of `flow` changes in a block: six.
 pub(crate) fn write_step(r: Record, flow: u32, words: &mut [u64])
-    requires { ⌜ (length (now words) ≡ 131) × (flow < 64) ⌝ }
+    requires { ⌜ (length (now words) ≡ 132) × (flow < 64) ⌝ }
     ensures { λ _. ⌜ now (words .exit) ≡ stepWords (now (words .entry)) r flow ⌝ }
 {
     let f = flow as usize;
@@ -154,4 +156,5 @@ pub(crate) fn write_step(r: Record, flow: u32, words: &mut [u64])
     words[3 + f] = tag.0;
     words[99 + k] = word_at(&r.queues.first, k);
     words[115 + k] = word_at(&r.queues.waiting, k);
+    words[131] = r.turn;
 }

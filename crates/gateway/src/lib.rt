@@ -1,4 +1,4 @@
-// The scheduler for C and Rust: the three calls of the crate `uplink` over a block of 131 words that the caller keeps,
+// The scheduler for C and Rust: the three calls of the crate `uplink` over a block of 132 words that the caller keeps,
 // and a look at one flow of it.
 // An opening, an arrival or a pick writes its words back on every path, a refused opening zeros, a refused arrival or
 // pick the same as they were: so no copy of the record is left in the machine code.
@@ -28,7 +28,7 @@ use uplink::PickReply;
 use uplink::Record;
 
 // The words of a block.
-const BLOCK_WORDS: usize = 131;
+const BLOCK_WORDS: usize = 132;
 
 // The words of a pick's reply.
 const REPLY_WORDS: usize = 6;
@@ -42,7 +42,7 @@ const DONE: u32 = 0;
 // Nothing waits.
 const IDLE: u32 = 100;
 
-// The block has not exactly 131 words.
+// The block has not exactly 132 words.
 const REFUSED_RECORD: u32 = 101;
 
 // The reply has not exactly 6 words, a depth's not exactly 4.
@@ -193,7 +193,7 @@ pub extern "C" fn uplink_pick(
 
 // What waits in a flow, its share, largest packet and tag, in a reply of four words.
 fn write_depth(block: &[u64], flow: u32, reply: &mut [u64])
-    requires { ⌜ (length (now block) ≡ 131) × (flow < 64) × (length (now reply) ≡ 4) ⌝ }
+    requires { ⌜ (length (now block) ≡ 132) × (flow < 64) × (length (now reply) ≡ 4) ⌝ }
     ensures { λ _. ⌜ done (now (reply .exit)) ≡ depthOf (flowAt (recordOf (now (block .entry))) flow) ⌝ }
 {
     let f = flow as usize;

@@ -109,9 +109,19 @@ field-in-requires-4 c κs = search needs
 set-field-requires-4 : tie.Need-set-field-requires-4
 set-field-requires-4 c κs = search needs
 
+shared-slice-read-r-6 : tie.Need-shared-slice-read-r-6
+shared-slice-read-r-6 c =
+    let third = c .before .before .before .before .before in
+    let second = third .before .before .before .before in
+    let first = second .before .before .before .before in
+    let tagged = first .before .before .before .before in
+    let linked = tagged .before .before .before .before .before .before in
+    omega (arith, linked .before .before .before .before .before .before .before .pre)
+
 returns : tie.Need-returns
 returns c =
-    let third = c .before .before .before .before in
+    let fourth = c .before in
+    let third = fourth .before .before .before .before in
     let second = third .before .before .before .before in
     let first = second .before .before .before .before in
     let tagged = first .before .before .before .before in
@@ -122,7 +132,7 @@ returns c =
     (first .set-field .ensures ∙ first .before .field-in .ensures)
     (second .set-field2 .ensures ∙ second .before .field-in2 .ensures)
     (third .set-field3 .ensures ∙ third .before .field-in3 .ensures)
-    (c .set-field4 .ensures ∙ c .before .field-in4 .ensures)
+    (fourth .set-field4 .ensures ∙ fourth .before .field-in4 .ensures)
 
 pub record-of-spec : {M : Type 1} → statement M
 record-of-spec =
@@ -162,4 +172,5 @@ record-of-spec =
     part-field-in-end-4
     field-in-requires-4
     set-field-requires-4
+    shared-slice-read-r-6
     returns)

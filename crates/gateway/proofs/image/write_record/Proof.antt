@@ -5,7 +5,7 @@ use lib.ListN.{length-set}
 use borrow.Author.Needs.{needs}
 use Rattle.below.specs.Filled.{filled-length}
 use Rattle.gateway.proofs.Blocks.{filled-tags, filled-share, filled-largest, filled-first}
-use Rattle.gateway.proofs.Blocks.{filled-all, record-written}
+use Rattle.gateway.proofs.Blocks.{filled-waiting, record-length, record-written}
 use Rattle.gateway.proofs.image.write_record.Statement.{statement}
 use Rattle.gateway.proofs.image.write_record.Tie as tie
 
@@ -138,6 +138,22 @@ part-write-field-end-4 c =
 write-field-requires-4 : tie.Need-write-field-requires-4
 write-field-requires-4 c κs = search needs
 
+slice-write-words-4 : tie.Need-slice-write-words-4
+slice-write-words-4 c =
+    let fourth = c .before .before in
+    let third = fourth .before .before .before .before .before .before in
+    let second = third .before .before .before .before .before .before in
+    let shared = second .before .before .before .before .before .before in
+    let tagged = shared .before .before .before .before .before .before in
+    let start = tagged .before .before .before .before .before in
+    omega (
+      arith,
+      start .pre,
+      filled-length _ _ _ _ (filled-waiting (start .args .words .now) (start .pre) (start .args .t1) _
+          (tagged .write-tags .ensures) _ (shared .write-field .ensures) _ (second .write-field2 .ensures) _
+          (third .write-field3 .ensures) _ (fourth .write-field4 .ensures)),
+    )
+
 same-length : tie.Need-same-length
 same-length c =
     let fourth = c .before .before in
@@ -146,9 +162,9 @@ same-length c =
     let shared = second .before .before .before .before .before .before in
     let tagged = shared .before .before .before .before .before .before in
     let start = tagged .before .before .before .before .before in
-    filled-length _ _ _ _ (filled-all (start .args .words .now) (start .pre) (start .args .t1) _
-    (tagged .write-tags .ensures) _ (shared .write-field .ensures) _ (second .write-field2 .ensures) _
-    (third .write-field3 .ensures) _ (fourth .write-field4 .ensures))
+    record-length (start .args .words .now) (start .pre) (start .args .t1) _ (tagged .write-tags .ensures) _
+    (shared .write-field .ensures) _ (second .write-field2 .ensures) _ (third .write-field3 .ensures) _
+    (fourth .write-field4 .ensures)
 
 returns : tie.Need-returns
 returns c =
@@ -196,5 +212,6 @@ write-record-spec =
     part-write-field-start-4
     part-write-field-end-4
     write-field-requires-4
+    slice-write-words-4
     same-length
     returns)

@@ -54,8 +54,13 @@ slice-write-words-5 c =
     let asked = c .before .before .before .before .before .before .before .before .before .before .pre in
     simp length-set (omega (arith, asked .0, asked .1))
 
+slice-write-words-6 : tie.Need-slice-write-words-6
+slice-write-words-6 c =
+    let asked = c .before .before .before .before .before .before .before .before .before .before .pre in
+    simp length-set (omega (arith, asked .0))
+
 same-length : tie.Need-same-length
-same-length c = search needs
+same-length c = simp length-set
 
 returns : tie.Need-returns
 returns c =
@@ -83,5 +88,6 @@ write-step-spec =
     add-words-3
     mul-words-3
     slice-write-words-5
+    slice-write-words-6
     same-length
     returns)
