@@ -17,33 +17,34 @@ use Rattle.gateway.specs.Image.{part, wordsOf, recordOf}
 use Rattle.sidegate.specs.Image.{signedAll, wordsAll, unsigned, plainWords, plainOf}
 
 -- the record that was read part by part
-pub plain-read : (words : List ℕ) (first : forward.Record) (tags : List ℤ) → first ≡ recordOf (part words 0 131)
+pub plain-read : (words : List ℕ) (first : forward.Record) (tags : List ℤ) → first ≡ recordOf (part words 0 132)
     → tags ≡ signedAll (first .tags .0)
     → record {
       flows = first .flows;
       header = first .header;
       width = first .width;
-      sum = ticks (getD words 131 0);
+      sum = ticks (getD words 132 0);
       clock = first .clock;
       link = first .link;
       tags = signedTags tags;
       queues = first .queues;
+      turn = first .turn;
     }
     ≡ plainOf words
 unfolding plainOf
 plain-read words first tags e t = rw (t, e)
 
 -- the last word, written and read
-last-word : (words : List ℕ) (sum : ℕ) → length words ≡ 132 → drop 131 (set words 131 sum) ≡ sum ∷ []
+last-word : (words : List ℕ) (sum : ℕ) → length words ≡ 133 → drop 132 (set words 132 sum) ≡ sum ∷ []
 last-word words sum h =
-    let long : length (set words 131 sum) ≡ 132 = length-set words 131 sum ∙ h in
-    drop-cons (set words 131 sum) 131 0 (omega (arith, long))
-    ∙ ap₂ (λ a l. a ∷ l) (getD-set-same words 131 sum 0 (omega (arith, h)))
-    (ap (λ n. drop n (set words 131 sum)) (sym long) ∙ drop-length (set words 131 sum))
+    let long : length (set words 132 sum) ≡ 133 = length-set words 132 sum ∙ h in
+    drop-cons (set words 132 sum) 132 0 (omega (arith, long))
+    ∙ ap₂ (λ a l. a ∷ l) (getD-set-same words 132 sum 0 (omega (arith, h)))
+    (ap (λ n. drop n (set words 132 sum)) (sym long) ∙ drop-length (set words 132 sum))
 
 -- a record written part by part
-module _ (words : List ℕ) (r : Record) (tags block : List ℕ) (h : length words ≡ 132) (t : tags ≡ wordsAll (r .tags .0))
-    (b : block ≡ wordsOf (with (unsigned r) (r .clock) (r .link) (tagsOf tags) (r .queues))) where
-  pub plain-written : putMid 0 131 (set words 131 (r .sum .0)) block ≡ plainWords r
+module _ (words : List ℕ) (r : Record) (tags block : List ℕ) (h : length words ≡ 133) (t : tags ≡ wordsAll (r .tags .0))
+    (b : block ≡ wordsOf (with (unsigned r) (r .clock) (r .link) (tagsOf tags) (r .queues) (r .turn))) where
+  pub plain-written : putMid 0 132 (set words 132 (r .sum .0)) block ≡ plainWords r
   unfolding plainWords
   plain-written = ap (λ rest. block ++ rest) (last-word words (r .sum .0) h) ∙ rw (b, t)

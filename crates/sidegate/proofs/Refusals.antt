@@ -28,7 +28,7 @@ use Rattle.sidegate.specs.Images.{words-of-plain}
 use Rattle.sidegate.specs.Plain.{held, plainArrival, plainPick}
 
 -- the blank record's words are all 0
-pub blank-words : plainWords blank ≡ replicate 132 0
+pub blank-words : plainWords blank ≡ replicate 133 0
 unfolding plainWords wordsOf fieldWords field64 listed
 blank-words = refl
 
@@ -69,17 +69,17 @@ module _ (s : State) where
 -- a refused arrival or pick changes no word of anything that is lent
 module _ (lent : Lent) (small : (k : ℕ) → getD (lent .block) k 0 < 2 ^ 64) where
   -- what is read and written back is the block
-  block-same : eqb (length (lent .block)) 132 ≡ true → plainWords (plainOf (lent .block)) ≡ lent .block
-  block-same e = words-of-plain (lent .block) (eqb-true (length (lent .block)) 132 e) small
+  block-same : eqb (length (lent .block)) 133 ≡ true → plainWords (plainOf (lent .block)) ≡ lent .block
+  block-same e = words-of-plain (lent .block) (eqb-true (length (lent .block)) 133 e) small
 
   pub refused-arrival : (flow bytes handle : ℕ) → Refused (plainArrival flow bytes handle lent)
       → plainArrival flow bytes handle lent .left ≡ lent
   unfolding plainArrival
-  refused-arrival flow bytes handle = same-else (eqb (length (lent .block)) 132) 101 lent _ λ e.
+  refused-arrival flow bytes handle = same-else (eqb (length (lent .block)) 133) 101 lent _ λ e.
       same-told plainWords plainOf lent _ _ (block-same e) (same-arrival (held lent) flow bytes handle)
 
   pub refused-pick : Refused (plainPick lent) → plainPick lent .left ≡ lent
   unfolding plainPick
-  refused-pick = same-else (eqb (length (lent .block)) 132) 101 lent _ λ e.
+  refused-pick = same-else (eqb (length (lent .block)) 133) 101 lent _ λ e.
       same-else (eqb (length (lent .reply)) 6) 102 lent _ λ _.
       same-told plainWords plainOf lent _ _ (block-same e) (same-pick (held lent))

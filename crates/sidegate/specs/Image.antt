@@ -1,5 +1,5 @@
--- The plain engine's record as the caller of the library keeps it: a block of 132 words of 64 bits. Words 0 to 130 are
--- the first engine's block (specs/Image.antt of the crate `gateway`) with the tags in two's complement; word 131 is the
+-- The plain engine's record as the caller of the library keeps it: a block of 133 words of 64 bits. Words 0 to 131 are
+-- the first engine's block (specs/Image.antt of the crate `gateway`) with the tags in two's complement; word 132 is the
 -- sum of the widths leapt.
 -- Assumes nothing.
 use mathlib.Core.Bool.{cond}
@@ -43,6 +43,7 @@ unsigned r =
       link = r .link;
       tags = tagsOf (wordsAll (r .tags .0));
       queues = r .queues;
+      turn = r .turn;
     }
 
 -- and back, with the sum
@@ -57,6 +58,7 @@ signed r sum =
       link = r .link;
       tags = signedTags (signedAll (r .tags .0));
       queues = r .queues;
+      turn = r .turn;
     }
 
 -- the block of a record
@@ -65,4 +67,4 @@ plainWords r = wordsOf (unsigned r) ++ r .sum .0 ∷ []
 
 -- the record of a block
 unfoldable pub plainOf : List ℕ → Record
-plainOf words = signed (recordOf (part words 0 131)) (getD words 131 0)
+plainOf words = signed (recordOf (part words 0 132)) (getD words 132 0)

@@ -1,5 +1,5 @@
 -- Words and record undo each other: a tag of 64 bits is told by its word and a record that fits by its block; any word
--- of 64 bits is that of the tag that it tells, and any 132 such words are the block of the record that they tell.
+-- of 64 bits is that of the tag that it tells, and any 133 such words are the block of the record that they tell.
 -- Assumes nothing.
 use mathlib.Core.Path.{_≡_, refl, sym, ap, _∙_}
 use mathlib.Core.Bool.{Bool, true, false}
@@ -43,12 +43,12 @@ tags-of-words words long small = ext-getD 0 (wordsAll (signedAll words)) words (
     ∙ ap wordOf (listed-here (λ k. signedOf (getD words k 0)) 64 f (pos 0) h)
     ∙ word-signed (getD words f 0) (small f h)
 
-module _ (words : List ℕ) (long : length words ≡ 132) (small : (k : ℕ) → getD words k 0 < 2 ^ 64) where
+module _ (words : List ℕ) (long : length words ≡ 133) (small : (k : ℕ) → getD words k 0 < 2 ^ 64) where
   abbrev first : List ℕ
-  first = part words 0 131
+  first = part words 0 132
 
-  first-long : length first ≡ 131
-  first-long = length-take-le 131 (drop 0 words) (omega (arith, long))
+  first-long : length first ≡ 132
+  first-long = length-take-le 132 (drop 0 words) (omega (arith, long))
 
   -- the tags of a block are words of 64 bits
   tag-small : (f : ℕ) → f < 64 → getD (part first 3 64) f 0 < 2 ^ 64
@@ -56,19 +56,19 @@ module _ (words : List ℕ) (long : length words ≡ 132) (small : (k : ℕ) →
       rw (
         getD-take 64 (drop 3 first) f 0 h,
         getD-drop 3 first f 0,
-        getD-take 131 (drop 0 words) (3 + f) 0 (omega arith),
+        getD-take 132 (drop 0 words) (3 + f) 0 (omega arith),
       )
       (small (3 + f))
 
   -- the last word, behind the first engine's
-  last : first ++ getD words 131 0 ∷ [] ≡ words
+  last : first ++ getD words 132 0 ∷ [] ≡ words
   last =
-      let none : drop 132 words ≡ [] = ap (λ n. drop n words) (sym long) ∙ drop-length words in
-      ap (λ rest. first ++ getD words 131 0 ∷ rest) (sym none)
-      ∙ ap (λ rest. first ++ rest) (sym (drop-cons words 131 0 (omega (arith, long))))
-      ∙ take-append-drop 131 words
+      let none : drop 133 words ≡ [] = ap (λ n. drop n words) (sym long) ∙ drop-length words in
+      ap (λ rest. first ++ getD words 132 0 ∷ rest) (sym none)
+      ∙ ap (λ rest. first ++ rest) (sym (drop-cons words 132 0 (omega (arith, long))))
+      ∙ take-append-drop 132 words
 
-  -- any 132 words of 64 bits are the block of the record that they tell
+  -- any 133 words of 64 bits are the block of the record that they tell
   pub words-of-plain : plainWords (plainOf words) ≡ words
   unfolding plainWords plainOf recordOf
   words-of-plain =
@@ -77,8 +77,8 @@ module _ (words : List ℕ) (long : length words ≡ 132) (small : (k : ℕ) →
 
 -- And back.
 
--- the block of the first engine has 131 words
-first-length : (r : forward.Record) → length (wordsOf r) ≡ 131
+-- the block of the first engine has 132 words
+first-length : (r : forward.Record) → length (wordsOf r) ≡ 132
 unfolding wordsOf
 first-length r = simp (length-append, field-length, words-length)
 
@@ -99,8 +99,8 @@ unfolding plainOf plainWords
 plain-of-words r F long small =
     let first = wordsOf (unsigned r) in
     rw (
-      take-at first (r .sum .0 ∷ []) 131 (first-length (unsigned r)),
-      getD-at first (r .sum .0) [] 0 131 (first-length (unsigned r)),
+      take-at first (r .sum .0 ∷ []) 132 (first-length (unsigned r)),
+      getD-at first (r .sum .0) [] 0 132 (first-length (unsigned r)),
       record-of-words (unsigned r) F,
       words-of-tags (r .tags .0) long small,
     )

@@ -17,11 +17,11 @@ held lent = heldBy plainOf lent
 
 unfoldable pub plainOpening : List ℕ → List ℕ → ℕ → Lent → Answered
 plainOpening shares largest header lent =
-    blocked 132 lent (told plainWords withFlow (openingRule shares largest header (lent .lengths) (lent .handles)) lent)
+    blocked 133 lent (told plainWords withFlow (openingRule shares largest header (lent .lengths) (lent .handles)) lent)
 
 unfoldable pub plainArrival : ℕ → ℕ → ℕ → Lent → Answered
 plainArrival flow length handle lent =
-    blocked 132 lent (told plainWords numberOf (arrivalRule (held lent) flow length handle) lent)
+    blocked 133 lent (told plainWords numberOf (arrivalRule (held lent) flow length handle) lent)
 
 unfoldable pub plainPick : Lent → Answered
-plainPick lent = blocked 132 lent (replied 6 lent (told plainWords numberOf (pickRule (held lent)) lent))
+plainPick lent = blocked 133 lent (replied 6 lent (told plainWords numberOf (pickRule (held lent)) lent))

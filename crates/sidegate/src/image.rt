@@ -1,5 +1,5 @@
-// The plain engine's record as a block of 132 words, and back: specs/Image.antt. Words 0 to 130 are the first engine's
-// block, read and written by the crate `gateway`, with the tags in two's complement; word 131 is the sum.
+// The plain engine's record as a block of 133 words, and back: specs/Image.antt. Words 0 to 131 are the first engine's
+// block, read and written by the crate `gateway`, with the tags in two's complement; word 132 is the sum.
 // Nothing is tested here: any words are a record's, and the form test is in the calls.
 ghost use mathlib.Core.Path.{_≡_};
 ghost use lib.ListN.{length};
@@ -65,10 +65,10 @@ fn unsigned_all(tags: &[i64; 64]) -> [u64; 64]
 
 // The record that a block tells.
 pub(crate) fn plain_of(words: &[u64]) -> Record
-    requires { ⌜ length (now words) ≡ 132 ⌝ }
+    requires { ⌜ length (now words) ≡ 133 ⌝ }
     ensures { λ r. ⌜ r ≡ plainOf (now (words .entry)) ⌝ }
 {
-    let first = gateway::record_of(&words[0..131]);
+    let first = gateway::record_of(&words[0..132]);
     let clock = first.clock;
     let link = first.link;
     let tags = signed_all(&first.tags.0);
@@ -77,17 +77,18 @@ pub(crate) fn plain_of(words: &[u64]) -> Record
         flows: first.flows,
         header: first.header,
         width: first.width,
-        sum: ServerTicks(words[131]),
+        sum: ServerTicks(words[132]),
         clock,
         link,
         tags: SignedTags(tags),
         queues,
+        turn: first.turn,
     }
 }
 
 // The block of a record.
 pub(crate) fn write_plain(r: Record, words: &mut [u64])
-    requires { ⌜ length (now words) ≡ 132 ⌝ }
+    requires { ⌜ length (now words) ≡ 133 ⌝ }
     ensures { λ _. ⌜ now (words .exit) ≡ plainWords r ⌝ }
 {
     let clock = r.clock;
@@ -102,7 +103,8 @@ pub(crate) fn write_plain(r: Record, words: &mut [u64])
         link,
         tags: ServerTags(tags),
         queues,
+        turn: r.turn,
     };
-    words[131] = r.sum.0;
-    gateway::write_record(first, &mut words[0..131]);
+    words[132] = r.sum.0;
+    gateway::write_record(first, &mut words[0..132]);
 }

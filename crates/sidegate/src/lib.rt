@@ -1,4 +1,4 @@
-// The plain engine for C: the three calls of the crate `backward` over a block of 132 words that the caller keeps, so
+// The plain engine for C: the three calls of the crate `backward` over a block of 133 words that the caller keeps, so
 // that it can be tested and measured from outside. include/backward.h says to the caller what is lent.
 ghost use mathlib.Core.Path.{_≡_};
 ghost use mathlib.Core.List.{[]};
@@ -16,7 +16,7 @@ use reply::OpeningReply;
 use uplink::PickReply;
 
 // The words of a block.
-const BLOCK_WORDS: usize = 132;
+const BLOCK_WORDS: usize = 133;
 
 // The words of a pick's reply.
 const REPLY_WORDS: usize = 6;
@@ -27,7 +27,7 @@ const DONE: u32 = 0;
 // Nothing waits.
 const IDLE: u32 = 100;
 
-// The block has not exactly 132 words.
+// The block has not exactly 133 words.
 const REFUSED_RECORD: u32 = 101;
 
 // The reply has not exactly 6 words.

@@ -28,7 +28,7 @@ write-record-requires c κs = search needs
 same-length : tie.Need-same-length
 same-length c =
     let start = c .before .before .before .before .before .before .before .before .before .before .before .args in
-    omega (arith, length-set (start .words .now) 131 (start .t1 .sum .0))
+    omega (arith, length-set (start .words .now) 132 (start .t1 .sum .0))
 
 returns : tie.Need-returns
 returns c = search (needs, plain-written)
