@@ -98,7 +98,8 @@ soon-near r f few S = go (leapt r f) refl
     go false e = S .tags .each f few
     go true e =
         let far : r .clock .0 + 2 * r .width < natural (tagOf r f) = ltb-true _ _ e in
-        rw (lowered-tag (chosenRecord r f) f few) (lowered-near (r .width) (tagOf r f) (omega (arith, far)) (S .tags .each f few))
+        rw (lowered-tag (chosenRecord r f) f few)
+        (lowered-near (r .width) (tagOf r f) (omega (arith, far)) (S .tags .each f few))
 
 module _ (r : Record) (f : ℕ) (tag : SignedTicks) (ahead : ServerTicks) (leap : Leapt) (next : Record)
     (t : tag .0 ≡ tagOf r f) (n : ahead .0 ≡ natural (tag .0)) (l : leap ≡ leapRule (r .clock) (r .width) ahead)

@@ -127,7 +127,8 @@ Idles s = pickRule s .reply ≡ idle
 abbrev Refuses : ℕ → State → Type 0
 Refuses number s = pickRule s ≡ record { reply = refused number 0; state = s }
 
--- The limits of the form, "with that added to clock and tags": link time, clock, sum, tag, the tags beyond and the turn.
+-- The limits of the form, "with that added to clock and tags": link time, clock, sum, tag, the tags beyond; and the
+-- turn.
 pub record Limits : Type 0 where
   -- "The blank record is all zeros. It is not well formed."
   blank-out : Refuses 2 start

@@ -43,7 +43,8 @@ use Rattle.backward.specs.Form.{formed}
 use Rattle.backward.specs.Formed.{lowered-tag, raised-fits, all-above, waiting-tag}
 use Rattle.backward.specs.Opening.{openingRule}
 use Rattle.backward.specs.Arrival.{storeRule, arrivalRule}
-use Rattle.backward.specs.Pick.{leadOf, leapt, chosenRecord, leaptRecord, servedRule, serveRule, idleRule, chooseRule, pickRule}
+use Rattle.backward.specs.Pick.{leadOf, leapt, chosenRecord, leaptRecord, servedRule, serveRule, idleRule, chooseRule}
+use Rattle.backward.specs.Pick.{pickRule}
 use Rattle.backward.specs.Calls.{afterCall}
 use Rattle.backward.specs.declared.Record.{Record}
 use Rattle.equal.specs.Raised.{raisedState, raisedValues, raisedOutcome}

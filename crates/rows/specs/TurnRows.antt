@@ -1,5 +1,5 @@
--- Document 02 e) in rows: among equal smallest tags the first flow at or after the turn, counting round 63 to 0; and the
--- turn, one past the last flow picked, 0 after an opening or Idle.
+-- Document 02 e) in rows: among equal smallest tags the first flow at or after the turn, counting round 63 to 0; and
+-- the turn, one past the last flow picked, 0 after an opening or Idle.
 -- Assumes nothing.
 use mathlib.Core.Path.{_≡_, refl}
 use mathlib.Core.Bool.{true, false}

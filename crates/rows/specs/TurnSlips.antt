@@ -1,5 +1,5 @@
--- Wrong ways to break a tie and to keep document 02 e)'s turn, each the rule's own outcome with one thing altered, and a
--- named state at which it leaves the rule. `after8` and `after62` are those of `TurnRows`.
+-- Wrong ways to break a tie and to keep document 02 e)'s turn, each the rule's own outcome with one thing altered, and
+-- a named state at which it leaves the rule. `after8` and `after62` are those of `TurnRows`.
 -- Assumes nothing.
 use mathlib.Core.Path.{_≡_, refl}
 use mathlib.Core.List.{[], _∷_}

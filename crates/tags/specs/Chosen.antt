@@ -30,7 +30,8 @@ before-rank turn f tag g other = go (ltb tag other) refl (eqb tag other) refl
     go : (a : Bool) → ltb tag other ≡ a → (b : Bool) → eqb tag other ≡ b
         → goesBefore turn f tag g other ≡ ltb (rank turn f tag) (rank turn g other)
     go true p b q = rw p
-        (sym (lt-ltb (rank turn f tag) (rank turn g other) (omega (arith, ltb-true tag other p, near turn f, near turn g))))
+        (sym (lt-ltb (rank turn f tag) (rank turn g other)
+        (omega (arith, ltb-true tag other p, near turn f, near turn g))))
     go false p true q = rw (p, q)
         (same-lt (fromTurn turn f) (fromTurn turn g) (rank turn f tag) (rank turn g other)
         (λ h. omega (arith, eqb-true tag other q)) (λ h. omega (arith, eqb-true tag other q)))
@@ -114,7 +115,8 @@ module _ (turn : ℕ) (tag waiting : ℕ → ℕ) (n : ℕ) (lead : Lead) (L : L
   held = rank turn (lead .flow) (lead .tag .0)
 
   -- the leader stays where flow n does not wait, or does not go before it
-  leads-stay : (0 < waiting n → (lead .waits ≡ true) × (held ≤ rank turn n (tag n))) → Leads turn tag waiting (suc n) lead
+  leads-stay : (0 < waiting n → (lead .waits ≡ true) × (held ≤ rank turn n (tag n)))
+      → Leads turn tag waiting (suc n) lead
   leads-stay h =
       record {
         first = λ e.

@@ -1,4 +1,5 @@
--- The form in the order in which it is tested: the turn, the clocks, the queue's side, the tag's side; and that this is the form.
+-- The form in the order in which it is tested: the turn, the clocks, the queue's side, the tag's side; and that this is
+-- the form.
 -- Assumes nothing.
 use mathlib.Core.Path.{_≡_, refl, sym, _∙_}
 use mathlib.Core.Bool.{Bool, true, false, not, _&&_, _||_}

@@ -1,5 +1,5 @@
--- What the leader of a record is: whatever the tie rule, a flow of smallest tag; by document 02 e) the first of these at
--- or after the turn; and where nobody leads nobody waits.
+-- What the leader of a record is: whatever the tie rule, a flow of smallest tag; by document 02 e) the first of these
+-- at or after the turn; and where nobody leads nobody waits.
 -- Assumes nothing.
 use mathlib.Core.Path.{_≡_}
 use mathlib.Core.Bool.{true, false}

@@ -20,8 +20,8 @@ use Rattle.tags.specs.Form.{tagFormed}
 use Rattle.tags.specs.Ticks.{ticks}
 use Rattle.tags.specs.Choice.{turnAfter}
 use Rattle.uplink.specs.Flow.{Flow, flowCost, joinedFlow, servedFlow}
-use Rattle.uplink.specs.Record.{flowAt, tagOf, waitingOf, moved, turned, put, Rows, moved-rows, put-rows, put-here}
-use Rattle.uplink.specs.Record.{put-else}
+use Rattle.uplink.specs.Record.{flowAt, tagOf, waitingOf, moved, turned, put, Rows, moved-rows, put-rows}
+use Rattle.uplink.specs.Record.{put-here, put-else}
 use Rattle.reply.specs.State.{state}
 use Rattle.uplink.specs.State.{State}
 use Rattle.uplink.specs.Form.{clockEnd}

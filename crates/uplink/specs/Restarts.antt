@@ -1,5 +1,5 @@
--- Where clock, link time, all tags and the turn become 0: the record after an Idle, and the one that an opening makes. Both are
--- well formed.
+-- Where clock, link time, all tags and the turn become 0: the record after an Idle, and the one that an opening makes.
+-- Both are well formed.
 -- Assumes nothing.
 use mathlib.Core.Path.{_≡_, refl, ap, _∙_}
 use mathlib.Core.Bool.{true}

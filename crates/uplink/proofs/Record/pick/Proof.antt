@@ -92,7 +92,8 @@ turn-after-requires : tie.Need-turn-after-requires
 turn-after-requires c κs = search needs
 
 go-on-requires : tie.Need-go-on-requires
-go-on-requires c κs = let known = ready (c .before .before .before .before .before) in (known .queue .flow, known .queue .first-below)
+go-on-requires c κs =
+    let known = ready (c .before .before .before .before .before) in (known .queue .flow, known .queue .first-below)
 
 leave-requires : tie.Need-leave-requires
 leave-requires c κs =
