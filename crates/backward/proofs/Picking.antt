@@ -147,9 +147,8 @@ module _ (r : Record) (lengths handles : List ℕ) (P : Passed r lengths handles
   key-at f h = rw k (listed-here (λ g. natural (tagOf r g)) 64 f 0 h)
 
   -- none of them stands for none
-  pub keyed : (r .turn < 64) × (r .flows ≤ 64) × Tagged keys (r .flows)
+  pub keyed : (r .flows ≤ 64) × Tagged keys (r .flows)
   keyed = (
-    P .form .turn,
     P .form .few,
     record {
       each = λ f h. let few : f < 64 = omega (arith, h, P .form .few) in
@@ -184,8 +183,8 @@ module _ (r : Record) (lengths handles : List ℕ) (P : Passed r lengths handles
 
       -- the leader waits, and has the smallest tag
       chosen : Smallest (λ f. natural (tagOf r f)) (waitingOf r) (r .flows) (lead .flow)
-      chosen = (rw led at (leads (r .turn) (λ f. natural (tagOf r f)) (waitingOf r) (r .flows))) .first
-          (not-false (lead .waits) w) .smallest
+      chosen = (rw led at (leads (r .turn) (λ f. natural (tagOf r f)) (waitingOf r) (r .flows))) .smallest
+          (not-false (lead .waits) w)
 
       module _ (soon : r .clock .0 + r .sum .0 < clockLimit) where
         -- what the checks leave of queue and tag

@@ -202,7 +202,7 @@ module _ (s : State) (wide : Wide (s .held)) (F : Formed (raisedRecord (s .held)
       go true e false = refl
       go true e true =
           let chosen = leads (s .held .turn) (λ f. natural (tagOf (s .held) f)) (waitingOf (s .held)) (s .held .flows)
-          .first e .smallest in
+          .smallest e in
           same-serve s wide F (leadOf (s .held) .flow) (chosen .counts) (chosen .waits)
 
 -- a pick

@@ -158,7 +158,7 @@ module _ (s : State) (S : Sound (s .held)) where
       go F true e true =
           let f = leadOf (s .held) .flow in
           let chosen = leads (s .held .turn) (λ g. signs.natural (tagOf (s .held) g)) (waitingOf (s .held))
-          (s .held .flows) .first e .smallest in
+          (s .held .flows) .smallest e in
           sound-served (state (leaptRecord (s .held) f) (s .lengths) (s .handles)) (sound-leapt (s .held) S f) f
           (omega (arith, F .few, chosen .counts))
 

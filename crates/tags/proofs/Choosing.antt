@@ -1,107 +1,139 @@
--- A turn of the search for the smallest tag: the flow looked at takes the lead, or the leader keeps it.
+-- Where the search begins; and a step of it: the flow looked at takes the lead, or the leader keeps it.
 -- Assumes nothing.
 use mathlib.Core.Path.{_≡_, refl, sym, ap, _∙_}
-use mathlib.Core.Bool.{Bool, true, false, cond, _&&_, _||_}
-use Prim.Native.Nat.{ℕ, _+_, _≤_, _<_}
-use native.Mathlib.Numerals.{add-one}
+use mathlib.Core.Bool.{Bool, true, false, cond}
+use mathlib.Core.List.{List}
+use Prim.Native.Nat.{ℕ, zero, suc, _+_, _-_, _≤_, _<_}
 use native.Mathlib.Omega.{arith}
 use lib.Dec.{leb, ltb, eqb}
-use borrow.Author.Tests.{leb-true, ltb-true, ltb-false, eqb-true, le-leb, lt-ltb, le-ltb, eq-eqb, ne-eqb}
-use Rattle.below.specs.Truth.{same-truth, both-true, both-of}
+use lib.ListN.{getD}
+use borrow.Author.Tests.{ltb-true, ltb-false, lt-ltb, le-ltb, le-leb, lt-leb}
+use Rattle.below.specs.Truth.{true-false}
 use Rattle.tags.specs.declared.choice.Lead.{Lead}
-use Rattle.tags.specs.Choice.{fromTurn, noTag, keyOf, goesBefore, overtakes, ahead, leadBy}
-use Rattle.tags.specs.Chosen.{Leads, leads}
+use Rattle.tags.specs.Choice.{noTag, noLead, keyOf, leadAt, ahead, leadOn, searchFrom, leadBy}
+use Rattle.tags.specs.Chosen.{search-inside, Tagged, Led}
 
--- the code's test of two keys that are equal, and of two that are not
-module _ (turn f key g least : ℕ) where
-  pub over-equal : key ≡ least → (ltb g turn && leb turn f) ≡ overtakes turn f key g least
-  over-equal e = rw (le-ltb key least (omega arith), eq-eqb key least e)
+-- at the turn where it is inside the table, and else at flow 0
+module _ (turn n : ℕ) where
+  pub from-turn : turn < n → turn ≡ searchFrom turn n
+  from-turn h = rw (lt-ltb turn n h)
 
-  pub over-apart : (key ≡ least → ⊥) → ltb key least ≡ overtakes turn f key g least
-  over-apart d = rw (ne-eqb key least d) (go (ltb key least))
-    where
-      go : (a : Bool) → a ≡ (a || false)
-      go true = refl
-      go false = refl
-
--- counting round from the turn, the flow of higher number comes first where the turn is between the two
-comes-first : (turn f g : ℕ) → turn < 64 → f < 64 → g < f
-    → (ltb g turn && leb turn f) ≡ ltb (fromTurn turn f) (fromTurn turn g)
-comes-first turn f g t l m = same-truth (ltb g turn && leb turn f) (ltb (fromTurn turn f) (fromTurn turn g))
-    (λ e. let b = both-true (ltb g turn) (leb turn f) e in
-    let low = ltb-true g turn (b .0) in
-    let high = leb-true turn f (b .1) in
-    lt-ltb (fromTurn turn f) (fromTurn turn g) (omega (arith, low, high)))
-    (λ e. let near = ltb-true (fromTurn turn f) (fromTurn turn g) e in
-    both-of (ltb g turn) (leb turn f) (lt-ltb g turn (omega (arith, near))) (le-leb turn f (omega (arith, near))))
-
--- so at a leader of lower number the code's test is whether the flow goes before it
-over-before : (turn f key g least : ℕ) → turn < 64 → f < 64 → g < f
-    → overtakes turn f key g least ≡ goesBefore turn f key g least
-over-before turn f key g least t l m = ap (λ b. ltb key least || (eqb key least && b)) (comes-first turn f g t l m)
-
--- with nobody in the lead it is whether its key is smaller
-over-nobody : (turn f key g least : ℕ) → turn < 64 → 64 ≤ g → overtakes turn f key g least ≡ ltb key least
-over-nobody turn f key g least t h = rw (le-ltb g turn (omega arith)) (go (ltb key least) (eqb key least))
-  where
-    go : (a b : Bool) → (a || (b && false)) ≡ a
-    go true b = refl
-    go false true = refl
-    go false false = refl
-
--- and above its key nobody goes before
-over-not : (turn f key g least : ℕ) → least < key → overtakes turn f key g least ≡ false
-over-not turn f key g least h = rw (le-ltb key least (omega arith), ne-eqb key least (λ e. omega arith))
+  pub from-none : n ≤ turn → 0 ≡ searchFrom turn n
+  from-none h = rw (le-ltb turn n h)
 
 -- who leads, told by a flow of 64 for nobody and the least key
 abbrev pub leadAs : ℕ → ℕ → Lead
 leadAs flow least = record { waits = ltb flow 64; flow = flow; tag = record { 0 = least } }
 
--- a turn: the leader among n flows and flow n
-module _ (turn : ℕ) (tag waiting : ℕ → ℕ) (n flow least key : ℕ)
-    (led : leadAs flow least ≡ leadBy turn tag waiting n) (here : key ≡ keyOf (tag n) (waiting n))
-    (low : (f : ℕ) → f ≤ n → tag f < noTag) (t : turn < 64) (few : n < 64) where
-  leader : Leads turn tag waiting n (leadAs flow least)
-  leader = rw led (leads turn tag waiting n)
+-- a leader is told by its flow and its tag
+pub led-as : (lead : Lead) → Led lead → leadAs (lead .flow) (lead .tag .0) ≡ lead
+led-as lead L = ap (λ b. record { waits = b; flow = lead .flow; tag = lead .tag }) (sym (L .told))
 
-  -- a flow that does not wait has a key that no leader has
-  idle-key : waiting n ≡ 0 → overtakes turn n noTag flow least ≡ false
-  idle-key z = go (ltb flow 64) refl
-    where
-      go : (b : Bool) → ltb flow 64 ≡ b → overtakes turn n noTag flow least ≡ false
-      go true e = over-not turn n noTag flow least
-          (let counts = leader .first e .smallest .counts in
-          omega (arith, leader .own e, low flow (omega (arith, counts))))
-      go false e = over-nobody turn n noTag flow least t (ltb-false flow 64 e)
-          ∙ le-ltb noTag least (omega (arith, leader .above e))
+pub as-led : (lead : Lead) → Led lead → Led (leadAs (lead .flow) (lead .tag .0))
+as-led lead L = rw (led-as lead L) L
 
-  step : cond (overtakes turn n key flow least) (leadAs n key) (leadAs flow least)
-      ≡ ahead turn (leadAs flow least) (tag n) (waiting n) n
-  unfolding ahead
-  step = go (eqb (waiting n) 0) refl (ltb flow 64) refl
-    where
-      go : (a : Bool) → eqb (waiting n) 0 ≡ a → (b : Bool) → ltb flow 64 ≡ b
-          → cond (overtakes turn n key flow least) (leadAs n key) (leadAs flow least)
-          ≡ ahead turn (leadAs flow least) (tag n) (waiting n) n
-      go true p b q = let k : key ≡ noTag = rw p at here in
-          rw (p, k, idle-key (eqb-true (waiting n) 0 p))
-      go false p true q =
-          let k : key ≡ tag n = rw p at here in
-          rw (p, k, lt-ltb n 64 few, q, over-before turn n (tag n) flow least t few (leader .first q .smallest .counts))
-      go false p false q =
-          let k : key ≡ tag n = rw p at here in
-          let small = lt-ltb (tag n) least (omega (arith, leader .above q, low n (omega arith))) in
-          rw (p, k, lt-ltb n 64 few, q, over-nobody turn n (tag n) flow least t (ltb-false flow 64 q), small)
+-- a flow that takes the lead is told so
+pub flow-led : (flow key : ℕ) → flow < 64 → key ≤ noTag → Led (leadAs flow key)
+flow-led flow key h low =
+    record { told = refl; few = omega arith; high = low; none = λ e. true-false (sym (lt-ltb flow 64 h) ∙ e) }
 
-  stepped : cond (overtakes turn n key flow least) (leadAs n key) (leadAs flow least)
-      ≡ leadBy turn tag waiting (n + 1)
+-- and one that goes ahead, or not, is told too
+ahead-led : (lead : Lead) (tag waiting f : ℕ) → Led lead → tag < noTag → f < 64 → Led (ahead lead tag waiting f)
+unfolding ahead
+ahead-led lead tag waiting f L low few = go (eqb waiting 0) (lead .waits) (leb (lead .tag .0) tag)
+  where
+    moved : Led (leadAt f tag)
+    moved = record { told = sym (lt-ltb f 64 few); few = omega arith; high = omega arith; none = λ e. true-false e }
+
+    go : (a b c : Bool) → Led (cond a lead (cond b (cond c lead (leadAt f tag)) (leadAt f tag)))
+    go true b c = L
+    go false true true = L
+    go false true false = moved
+    go false false c = moved
+
+on-led : (tag waiting : ℕ → ℕ) (from count n : ℕ) (lead : Lead) → from + count ≤ n → n ≤ 64
+    → ((f : ℕ) → f < n → tag f < noTag) → Led lead → Led (leadOn tag waiting lead from count)
+unfolding leadOn
+on-led tag waiting from zero n lead h few low L = L
+on-led tag waiting from (suc count) n lead h few low L =
+    ahead-led (leadOn tag waiting lead from count) (tag (from + count)) (waiting (from + count)) (from + count)
+    (on-led tag waiting from count n lead (omega arith) few low L) (low (from + count) (omega arith)) (omega arith)
+
+-- the two stretches of the search: what each is given, and what they come to
+module _ (turn : ℕ) (tags waits : List ℕ) (n : ℕ) (few : n ≤ 64) (T : Tagged tags n) (from : ℕ)
+    (begins : from ≡ searchFrom turn n) where
+  abbrev tag : ℕ → ℕ
+  tag g = getD tags g 0
+
+  abbrev waiting : ℕ → ℕ
+  waiting g = getD waits g 0
+
+  inside : from ≤ n
+  inside = omega (arith, begins, search-inside turn n)
+
+  pub first-stretch : (from ≤ n) × (n ≤ 64) × Tagged tags n × Led noLead
+  first-stretch = (
+    inside,
+    few,
+    T,
+    record { told = refl; few = omega arith; high = omega arith; none = λ _. refl },
+  )
+
+  pub second-stretch : (later : Lead) → later ≡ leadOn tag waiting noLead from (n - from)
+      → (0 ≤ from) × (from ≤ 64) × Tagged tags from × Led later
+  second-stretch later e = (
+    omega arith,
+    omega (arith, inside),
+    record { each = λ f h. T .each f (omega (arith, inside)) },
+    rw e (on-led tag waiting from (n - from) n noLead (omega (arith, inside)) few (T .each) (first-stretch .3)),
+  )
+
+  pub both-stretches : (later last : Lead) → later ≡ leadOn tag waiting noLead from (n - from)
+      → last ≡ leadOn tag waiting later 0 (from - 0) → last ≡ leadBy turn tag waiting n
   unfolding leadBy
-  stepped = rw (add-one, ← led) step
+  both-stretches later last e q = let all : from - 0 ≡ from = omega arith in rw (all, e, begins) at q
 
-  pub lead-moves : (b : Bool) → b ≡ overtakes turn n key flow least → b ≡ true
-      → leadAs n key ≡ leadBy turn tag waiting (n + 1)
-  lead-moves b e h = rw (sym e ∙ h) at stepped
+-- by the keys it takes the lead where its own is smaller
+ahead-key : (flow least tag waiting n : ℕ) → Led (leadAs flow least) → tag < noTag → n < 64
+    → let key = keyOf tag waiting in
+    cond (ltb key least) (leadAs n key) (leadAs flow least) ≡ ahead (leadAs flow least) tag waiting n
+unfolding ahead
+ahead-key flow least tag waiting n L low few =
+    go (eqb waiting 0) refl (ltb flow 64) refl (ltb tag least) refl
+  where
+    go : (a : Bool) → eqb waiting 0 ≡ a → (b : Bool) → ltb flow 64 ≡ b → (c : Bool) → ltb tag least ≡ c
+        → let key = keyOf tag waiting in
+        cond (ltb key least) (leadAs n key) (leadAs flow least) ≡ ahead (leadAs flow least) tag waiting n
+    go true p b q c t = rw (p, le-ltb noTag least (L .high))
+    go false p true q true t = rw (p, q, t, lt-leb least tag (ltb-true tag least t), lt-ltb n 64 few)
+    go false p true q false t = rw (p, q, t, le-leb least tag (ltb-false tag least t))
+    go false p false q c t = rw (p, q, lt-ltb tag least (omega (arith, L .none q)), lt-ltb n 64 few)
 
-  pub lead-stays : (b : Bool) → b ≡ overtakes turn n key flow least → b ≡ false
-      → leadAs flow least ≡ leadBy turn tag waiting (n + 1)
-  lead-stays b e h = rw (sym e ∙ h) at stepped
+-- before the first step the lead is as it came, and at the end it is told so
+module _ (tag waiting : ℕ → ℕ) (from : ℕ) where
+  pub lead-begins : (lead : Lead) → lead ≡ leadOn tag waiting lead from (from - from)
+  unfolding leadOn
+  lead-begins lead = let none : from - from ≡ 0 = omega arith in rw none
+
+  pub lead-ends : (lead last : Lead) (at to : ℕ) → Led lead → at ≡ to
+      → last ≡ leadOn tag waiting (leadAs (lead .flow) (lead .tag .0)) from (at - from)
+      → last ≡ leadOn tag waiting lead from (to - from)
+  lead-ends lead last at to L e q = rw (led-as lead L, e) at q
+
+-- a step: the flow at `at`, behind those from `from` on
+module _ (tag waiting : ℕ → ℕ) (lead : Lead) (from at flow least key : ℕ)
+    (led : leadAs flow least ≡ leadOn tag waiting lead from (at - from)) (L : Led (leadAs flow least))
+    (here : key ≡ keyOf (tag at) (waiting at)) (h : from ≤ at) (low : tag at < noTag) (few : at < 64) where
+  stepped : cond (ltb key least) (leadAs at key) (leadAs flow least)
+      ≡ leadOn tag waiting lead from (at + 1 - from)
+  unfolding leadOn
+  stepped =
+      let next : at + 1 - from ≡ suc (at - from) = omega arith in
+      let same : from + (at - from) ≡ at = omega arith in
+      rw (next, same, ← led, here) (ahead-key flow least (tag at) (waiting at) at L low few)
+
+  pub lead-moves : key < least → leadAs at key ≡ leadOn tag waiting lead from (at + 1 - from)
+  lead-moves k = rw (lt-ltb key least k) at stepped
+
+  pub lead-stays : least ≤ key → leadAs flow least ≡ leadOn tag waiting lead from (at + 1 - from)
+  lead-stays k = rw (le-ltb key least k) at stepped

@@ -3,7 +3,7 @@
 -- by the flow's number: nothing of a layout.
 -- Assumes nothing.
 use mathlib.Core.Path.{_≡_}
-use mathlib.Core.Bool.{Bool, true, false, cond, _&&_, _||_}
+use mathlib.Core.Bool.{true, false, cond}
 use Prim.Native.Nat.{ℕ, zero, suc, _+_, _-_, _%_, _^_, _≤_, _<_}
 use lib.Dec.{leb, ltb, eqb}
 use Rattle.tags.specs.Ticks.{ticks}
@@ -42,27 +42,30 @@ noLead = record { waits = false; flow = 64; tag = ticks noTag }
 abbrev pub leadAt : ℕ → ℕ → Lead
 leadAt f tag = record { waits = true; flow = f; tag = ticks tag }
 
--- flow f goes before flow g, by their tags: its own is smaller, or they are equal and it is nearer the turn
-abbrev pub goesBefore : ℕ → ℕ → ℕ → ℕ → ℕ → Bool
-goesBefore turn f tag g other = ltb tag other || (eqb tag other && ltb (fromTurn turn f) (fromTurn turn g))
-
--- flow f takes the lead where it waits and either nobody leads or it goes before the leader
-unfoldable pub ahead : ℕ → Lead → ℕ → ℕ → ℕ → Lead
-ahead turn lead tag waiting f =
+-- flow f takes the lead where it waits and either nobody leads or its tag is smaller: of equals the first looked at stays
+unfoldable pub ahead : Lead → ℕ → ℕ → ℕ → Lead
+ahead lead tag waiting f =
     cond (eqb waiting 0) lead
     (cond (lead .waits)
-    (cond (goesBefore turn f tag (lead .flow) (lead .tag .0)) (leadAt f tag) lead)
+    (cond (leb (lead .tag .0) tag) lead (leadAt f tag))
     (leadAt f tag))
 
--- who leads among the first n flows
+-- who leads when `count` flows from flow `from` on are looked at too
+unfoldable pub leadOn : (ℕ → ℕ) → (ℕ → ℕ) → Lead → ℕ → ℕ → Lead
+leadOn tag waiting lead from zero = lead
+leadOn tag waiting lead from (suc count) =
+    let f = from + count in ahead (leadOn tag waiting lead from count) (tag f) (waiting f) f
+
+-- where the search begins: at the turn, or at flow 0 where the turn is past the last flow
+abbrev pub searchFrom : ℕ → ℕ → ℕ
+searchFrom turn n = cond (ltb turn n) turn 0
+
+-- who leads among the first n flows: looked at from the turn on, "counting round"
 unfoldable pub leadBy : ℕ → (ℕ → ℕ) → (ℕ → ℕ) → ℕ → Lead
-leadBy turn tag waiting zero = noLead
-leadBy turn tag waiting (suc n) = ahead turn (leadBy turn tag waiting n) (tag n) (waiting n) n
+leadBy turn tag waiting n =
+    let from = searchFrom turn n in
+    leadOn tag waiting (leadOn tag waiting noLead from (n - from)) 0 from
 
 -- the tag of a flow that waits, and what is above every tag for any other: the code compares these
 abbrev pub keyOf : ℕ → ℕ → ℕ
 keyOf tag waiting = cond (eqb waiting 0) noTag tag
-
--- and at flow f, by these keys, whether it goes before a leader g of a lower number; 64 is nobody
-abbrev pub overtakes : ℕ → ℕ → ℕ → ℕ → ℕ → Bool
-overtakes turn f key g least = ltb key least || (eqb key least && (ltb g turn && leb turn f))

@@ -4,71 +4,18 @@
 use mathlib.Core.Path.{_≡_, refl, sym, ap, ap₂, _∙_}
 use mathlib.Core.Bool.{Bool, true, false, cond}
 use mathlib.Core.List.{List}
-use Prim.Native.Nat.{ℕ, zero, suc, _+_, _*_, _≤_, _<_}
-use native.Mathlib.Nat.{not-suc-le-zero}
+use Prim.Native.Nat.{ℕ, zero, suc, _+_, _-_, _≤_, _<_}
 use native.Mathlib.Decide.{ℕ-discrete}
+use native.Mathlib.Numerals.{unary-clauses}
 use native.Mathlib.Omega.{arith}
-use lib.Dec.{ltb, eqb}
+use lib.Dec.{leb, ltb, eqb}
 use lib.ListN.{getD}
-use borrow.Author.Tests.{ltb-true, ltb-false, lt-ltb, le-ltb, eqb-true, eqb-false}
-use Rattle.below.specs.Truth.{true-false, same-lt}
+use borrow.Author.Tests.{leb-true, leb-false, eqb-true, eqb-false, ltb-true, ltb-false, le-leb, lt-leb, lt-ltb, le-ltb}
+use Rattle.below.specs.Truth.{true-false}
 use Rattle.tags.specs.Ticks.{ticks}
-use Rattle.tags.specs.Choice.{First, fromTurn, turnAfter, noTag, noLead, leadAt, goesBefore, ahead}
-use Rattle.tags.specs.Choice.{leadBy}
+use Rattle.tags.specs.Choice.{Smallest, First, fromTurn, turnAfter, noTag, noLead, leadAt, ahead, leadOn}
+use Rattle.tags.specs.Choice.{searchFrom, leadBy}
 use Rattle.tags.specs.declared.choice.Lead.{Lead}
-
--- a tag and a distance from the turn as one number, by which flows go before one another
-abbrev rank : ℕ → ℕ → ℕ → ℕ
-rank turn f tag = 64 * tag + fromTurn turn f
-
-near : (turn f : ℕ) → fromTurn turn f < 64
-near turn f = omega arith
-
-before-rank : (turn f tag g other : ℕ) → goesBefore turn f tag g other ≡ ltb (rank turn f tag) (rank turn g other)
-before-rank turn f tag g other = go (ltb tag other) refl (eqb tag other) refl
-  where
-    go : (a : Bool) → ltb tag other ≡ a → (b : Bool) → eqb tag other ≡ b
-        → goesBefore turn f tag g other ≡ ltb (rank turn f tag) (rank turn g other)
-    go true p b q = rw p
-        (sym (lt-ltb (rank turn f tag) (rank turn g other)
-        (omega (arith, ltb-true tag other p, near turn f, near turn g))))
-    go false p true q = rw (p, q)
-        (same-lt (fromTurn turn f) (fromTurn turn g) (rank turn f tag) (rank turn g other)
-        (λ h. omega (arith, eqb-true tag other q)) (λ h. omega (arith, eqb-true tag other q)))
-    go false p false q = rw (p, q)
-        (sym (le-ltb (rank turn f tag) (rank turn g other)
-        (omega (arith, ltb-false tag other p, eqb-false tag other q, near turn f, near turn g))))
-
--- the leader among the first n flows
-pub record Leads (turn : ℕ) (tag waiting : ℕ → ℕ) (n : ℕ) (lead : Lead) : Type 0 where
-  -- a leader is the first of the waiting flows of smallest tag, and the tag is its own
-  pub first : lead .waits ≡ true → First turn tag waiting n (lead .flow)
-  pub own : lead .waits ≡ true → tag (lead .flow) ≡ lead .tag .0
-  -- with no leader nothing waits
-  pub nobody : lead .waits ≡ false → (g : ℕ) → g < n → waiting g ≡ 0
-  pub above : lead .waits ≡ false → lead .tag .0 ≡ noTag
-
-module _ (turn : ℕ) (tag waiting : ℕ → ℕ) (n f : ℕ) where
-  -- a waiting flow that no waiting flow goes before is the first
-  first-of : f < n → 0 < waiting f
-      → ((g : ℕ) → g < n → 0 < waiting g → rank turn f (tag f) ≤ rank turn g (tag g)) → First turn tag waiting n f
-  first-of counts waits each =
-      record {
-        smallest = record {
-          counts = counts;
-          waits = waits;
-          least = λ g l w. omega (arith, each g l w, near turn f, near turn g);
-        };
-        nearest = λ g l w e. omega (arith, each g l w);
-      }
-
-  -- and no waiting flow goes before the first
-  first-rank : First turn tag waiting n f
-      → (g : ℕ) → g < n → 0 < waiting g → rank turn f (tag f) ≤ rank turn g (tag g)
-  first-rank F g l w = elim (ℕ-discrete (tag g) (tag f)) as (λ _. rank turn f (tag f) ≤ rank turn g (tag g)) [
-    | yes q ↦ omega (arith, F .nearest g l w q)
-    | no q ↦ omega (arith, F .smallest .least g l w, near turn f, near turn g)
-  ]
 
 -- two flows as far from the turn are one flow
 same-distance : (turn f g : ℕ) → turn < 64 → f < 64 → g < 64 → fromTurn turn f ≡ fromTurn turn g → f ≡ g
@@ -93,146 +40,316 @@ pub last-farthest : (f g : ℕ) → f < 64 → g < 64 → (g ≡ f → ⊥)
     → fromTurn (turnAfter f) g < fromTurn (turnAfter f) f
 last-farthest f g l m d = omega arith
 
-leads-none : (turn : ℕ) (tag waiting : ℕ → ℕ) → Leads turn tag waiting 0 noLead
-leads-none turn tag waiting =
-    record {
-      first = λ e. true-false (sym e);
-      own = λ e. true-false (sym e);
-      nobody = λ e g h. absurd (not-suc-le-zero h);
-      above = λ e. refl;
-    }
+-- the leader among the first n flows
+pub record Leads (turn : ℕ) (tag waiting : ℕ → ℕ) (n : ℕ) (lead : Lead) : Type 0 where
+  -- a leader is a waiting flow of smallest tag, whatever the turn, and the tag is its own
+  pub smallest : lead .waits ≡ true → Smallest tag waiting n (lead .flow)
+  pub own : lead .waits ≡ true → tag (lead .flow) ≡ lead .tag .0
+  -- and of equals the first from the turn on
+  pub first : turn < 64 → n ≤ 64 → lead .waits ≡ true → First turn tag waiting n (lead .flow)
+  -- with no leader nothing waits
+  pub nobody : lead .waits ≡ false → (g : ℕ) → g < n → waiting g ≡ 0
 
--- what holds of the numbers below n, and of n, holds of those below n + 1
-below-suc : (P : ℕ → Type 0) (n : ℕ) → ((g : ℕ) → g < n → P g) → P n → (g : ℕ) → g < suc n → P g
-below-suc P n each here g h = elim (ℕ-discrete g n) as (λ _. P g) [
-  | yes q ↦ rw q here
-  | no q ↦ each g (omega arith)
-]
+-- the search begins inside the table, or at its end
+pub search-inside : (turn n : ℕ) → searchFrom turn n ≤ n
+search-inside turn n = go (ltb turn n) refl
+  where
+    go : (b : Bool) → ltb turn n ≡ b → cond b turn 0 ≤ n
+    go true e = omega (arith, ltb-true turn n e)
+    go false e = omega arith
 
-module _ (turn : ℕ) (tag waiting : ℕ → ℕ) (n : ℕ) (lead : Lead) (L : Leads turn tag waiting n lead) where
-  -- the leader's number by which it goes before others
-  abbrev held : ℕ
-  held = rank turn (lead .flow) (lead .tag .0)
+-- the place of flow g where the first n flows are looked at from flow `from` on, and then from 0 up to it
+placeIn : ℕ → ℕ → ℕ → ℕ
+placeIn from n g = cond (ltb g from) (g + (n - from)) (g - from)
 
-  -- the leader stays where flow n does not wait, or does not go before it
-  leads-stay : (0 < waiting n → (lead .waits ≡ true) × (held ≤ rank turn n (tag n)))
-      → Leads turn tag waiting (suc n) lead
-  leads-stay h =
+module _ (from n : ℕ) where
+  place-low : (g : ℕ) → g < from → placeIn from n g ≡ g + (n - from)
+  unfolding placeIn
+  place-low g h = rw (lt-ltb g from h)
+
+  place-high : (g : ℕ) → from ≤ g → placeIn from n g ≡ g - from
+  unfolding placeIn
+  place-high g h = rw (le-ltb g from h)
+
+  -- what holds of a place both ways
+  placed : (g : ℕ) (P : ℕ → Type 0) → (g < from → P (g + (n - from))) → (from ≤ g → P (g - from)) → P (placeIn from n g)
+  placed g P low high = go (ltb g from) refl
+    where
+      go : (b : Bool) → ltb g from ≡ b → P (placeIn from n g)
+      go true e = let h = ltb-true g from e in rw (place-low g h) (low h)
+      go false e = let h = ltb-false g from e in rw (place-high g h) (high h)
+
+  module _ (h : from ≤ n) where
+    -- every flow has its place among n
+    place-below : (g : ℕ) → g < n → placeIn from n g < n
+    place-below g l = placed g (λ p. p < n) (λ a. omega arith) (λ a. omega arith)
+
+    -- and no two the same
+    place-one : (f g : ℕ) → f < n → g < n → placeIn from n f ≡ placeIn from n g → f ≡ g
+    place-one f g l m = placed f (λ p. p ≡ placeIn from n g → f ≡ g)
+        (λ a. placed g (λ q. f + (n - from) ≡ q → f ≡ g) (λ b e. omega arith) (λ b e. omega arith))
+        (λ a. placed g (λ q. f - from ≡ q → f ≡ g) (λ b e. omega arith) (λ b e. omega arith))
+
+-- a flow that is looked at earlier is nearer the turn
+earlier-nearer : (turn n f g : ℕ) → turn < 64 → n ≤ 64 → f < n → g < n
+    → placeIn (searchFrom turn n) n f ≤ placeIn (searchFrom turn n) n g → fromTurn turn f ≤ fromTurn turn g
+earlier-nearer turn n f g t few l m = go (ltb turn n) refl
+  where
+    Nearer : ℕ → ℕ → Type 0
+    Nearer p q = p ≤ q → fromTurn turn f ≤ fromTurn turn g
+
+    go : (b : Bool) → ltb turn n ≡ b → let from = cond b turn 0 in Nearer (placeIn from n f) (placeIn from n g)
+    go true e = let inside = ltb-true turn n e in
+        placed turn n f (λ p. Nearer p (placeIn turn n g))
+        (λ a. placed turn n g (Nearer (f + (n - turn))) (λ b h. omega arith) (λ b h. omega arith))
+        (λ a. placed turn n g (Nearer (f - turn)) (λ b h. omega arith) (λ b h. omega arith))
+    go false e = let past = ltb-false turn n e in
+        placed 0 n f (λ p. Nearer p (placeIn 0 n g))
+        (λ a. absurd (omega arith))
+        (λ a. placed 0 n g (Nearer (f - 0)) (λ b. absurd (omega arith)) (λ b h. omega arith))
+
+-- So at any point the flows that have been looked at are those of a place before some other, and the leader is the first
+-- among these.
+module _ (tag waiting : ℕ → ℕ) (n from : ℕ) (inside : from ≤ n) where
+  abbrev place : ℕ → ℕ
+  place = placeIn from n
+
+  -- the leader among the flows of a place before `end`
+  record LeadsBefore (end : ℕ) (lead : Lead) : Type 0 where
+    counts : lead .waits ≡ true → lead .flow < n
+    before : lead .waits ≡ true → place (lead .flow) < end
+    waits : lead .waits ≡ true → 0 < waiting (lead .flow)
+    own : lead .waits ≡ true → tag (lead .flow) ≡ lead .tag .0
+    least : lead .waits ≡ true → (g : ℕ) → g < n → place g < end → 0 < waiting g → lead .tag .0 ≤ tag g
+    earliest : lead .waits ≡ true → (g : ℕ) → g < n → place g < end → 0 < waiting g → tag g ≡ lead .tag .0
+        → place (lead .flow) ≤ place g
+    nobody : lead .waits ≡ false → (g : ℕ) → g < n → place g < end → waiting g ≡ 0
+
+  -- nobody leads before anything is looked at
+  none-before : LeadsBefore 0 noLead
+  none-before =
       record {
-        first = λ e.
-            let s = L .first e .smallest in
-            first-of turn tag waiting (suc n) (lead .flow) (omega (arith, s .counts)) (s .waits)
-            (below-suc (λ g. 0 < waiting g → rank turn (lead .flow) (tag (lead .flow)) ≤ rank turn g (tag g)) n
-            (first-rank turn tag waiting n (lead .flow) (L .first e))
-            λ w. rw (L .own e) (h w .1));
-        own = L .own;
-        nobody = λ e. below-suc (λ g. waiting g ≡ 0) n (L .nobody e) (still e);
-        above = L .above;
-      }
-    where
-      still : lead .waits ≡ false → waiting n ≡ 0
-      still e = elim (ℕ-discrete (waiting n) 0) as (λ _. waiting n ≡ 0) [
-        | yes q ↦ q
-        | no q ↦ true-false (sym (h (omega arith) .0) ∙ e)
-      ]
-
-  -- flow n goes before every waiting flow below it
-  move-below : (lead .waits ≡ true → rank turn n (tag n) < held) → (g : ℕ) → g < n → 0 < waiting g
-      → rank turn n (tag n) ≤ rank turn g (tag g)
-  move-below h g l v = go (lead .waits) refl
-    where
-      go : (b : Bool) → lead .waits ≡ b → rank turn n (tag n) ≤ rank turn g (tag g)
-      go true e = let r = rw (L .own e) at (first-rank turn tag waiting n (lead .flow) (L .first e) g l v) in
-          omega (arith, h e, r)
-      go false e = absurd (omega (arith, L .nobody e g l))
-
-  -- flow n leads where it waits and nobody led, or it goes before the leader
-  leads-move : 0 < waiting n → (lead .waits ≡ true → rank turn n (tag n) < held)
-      → Leads turn tag waiting (suc n) (leadAt n (tag n))
-  leads-move w h =
-      record {
-        first = λ _. first-of turn tag waiting (suc n) n (omega arith) w
-            (below-suc (λ g. 0 < waiting g → rank turn n (tag n) ≤ rank turn g (tag g)) n (move-below h)
-            λ _. omega arith);
-        own = λ _. refl;
-        nobody = λ e. true-false e;
-        above = λ e. true-false e;
+        counts = λ e. true-false (sym e);
+        before = λ e. true-false (sym e);
+        waits = λ e. true-false (sym e);
+        own = λ e. true-false (sym e);
+        least = λ e. true-false (sym e);
+        earliest = λ e. true-false (sym e);
+        nobody = λ e g l d. absurd (omega arith);
       }
 
-  leads-more : Leads turn tag waiting (suc n) (ahead turn lead (tag n) (waiting n) n)
-  unfolding ahead
-  leads-more = rw (before-rank turn n (tag n) (lead .flow) (lead .tag .0))
-      (go (eqb (waiting n) 0) refl (lead .waits) refl (ltb (rank turn n (tag n)) held) refl)
-    where
-      go : (a : Bool) → eqb (waiting n) 0 ≡ a → (b : Bool) → lead .waits ≡ b → (c : Bool)
-          → ltb (rank turn n (tag n)) held ≡ c
-          → Leads turn tag waiting (suc n) (cond a lead (cond b (cond c (leadAt n (tag n)) lead) (leadAt n (tag n))))
-      go true p b q c t = leads-stay λ w. absurd (omega (arith, eqb-true (waiting n) 0 p))
-      go false p true q true t = leads-move (omega (arith, eqb-false (waiting n) 0 p)) λ _. ltb-true _ held t
-      go false p true q false t = leads-stay λ w. (q, ltb-false _ held t)
-      go false p false q c t = leads-move (omega (arith, eqb-false (waiting n) 0 p)) λ e. true-false (sym e ∙ q)
+  module _ (end f : ℕ) (lead : Lead) (L : LeadsBefore end lead) (l : f < n) (here : place f ≡ end) where
+    -- what holds of the flows before flow f, and of flow f, holds of those before the next
+    before-suc : (P : ℕ → Type 0) → ((g : ℕ) → g < n → place g < end → P g) → P f
+        → (g : ℕ) → g < n → place g < suc end → P g
+    before-suc P each this g m d = elim (ℕ-discrete g f) as (λ _. P g) [
+      | yes q ↦ rw q this
+      | no q ↦ each g m
+          (elim (ℕ-discrete (place g) (place f)) as (λ _. place g < end) [
+            | yes e ↦ absurd (q (place-one from n inside g f m l e))
+            | no e ↦ omega arith
+          ])
+    ]
 
+    -- the leader stays where flow f does not wait, or has no smaller tag
+    leads-stay : (0 < waiting f → (lead .waits ≡ true) × (lead .tag .0 ≤ tag f)) → LeadsBefore (suc end) lead
+    leads-stay h =
+        record {
+          counts = L .counts;
+          before = λ e. omega (arith, L .before e);
+          waits = L .waits;
+          own = L .own;
+          least = λ e. before-suc (λ g. 0 < waiting g → lead .tag .0 ≤ tag g) (L .least e) (λ w. h w .1);
+          earliest = λ e. before-suc (λ g. 0 < waiting g → tag g ≡ lead .tag .0 → place (lead .flow) ≤ place g)
+              (L .earliest e) (λ w q. omega (arith, L .before e, here));
+          nobody = λ e. before-suc (λ g. waiting g ≡ 0) (L .nobody e) (still e);
+        }
+      where
+        still : lead .waits ≡ false → waiting f ≡ 0
+        still e = elim (ℕ-discrete (waiting f) 0) as (λ _. waiting f ≡ 0) [
+          | yes q ↦ q
+          | no q ↦ true-false (sym (h (omega arith) .0) ∙ e)
+        ]
+
+    -- where flow f takes the lead, a waiting flow before it has a larger tag
+    move-before : (lead .waits ≡ true → tag f < lead .tag .0) → (g : ℕ) → g < n → place g < end → 0 < waiting g
+        → tag f < tag g
+    move-before h g m d v = go (lead .waits) refl
+      where
+        go : (b : Bool) → lead .waits ≡ b → tag f < tag g
+        go true e = omega (arith, h e, L .least e g m d v)
+        go false e = absurd (omega (arith, L .nobody e g m d))
+
+    -- flow f leads where it waits and nobody led, or its tag is smaller
+    leads-move : 0 < waiting f → (lead .waits ≡ true → tag f < lead .tag .0)
+        → LeadsBefore (suc end) (leadAt f (tag f))
+    leads-move w h =
+        record {
+          counts = λ _. l;
+          before = λ _. omega (arith, here);
+          waits = λ _. w;
+          own = λ _. refl;
+          least = λ _. before-suc (λ g. 0 < waiting g → tag f ≤ tag g)
+              (λ g m d v. omega (arith, move-before h g m d v)) (λ _. omega arith);
+          earliest = λ _. before-suc (λ g. 0 < waiting g → tag g ≡ tag f → place f ≤ place g)
+              (λ g m d v e. absurd (omega (arith, move-before h g m d v, e))) (λ _ _. omega arith);
+          nobody = λ e. true-false e;
+        }
+
+    leads-more : LeadsBefore (suc end) (ahead lead (tag f) (waiting f) f)
+    unfolding ahead
+    leads-more = go (eqb (waiting f) 0) refl (lead .waits) refl (leb (lead .tag .0) (tag f)) refl
+      where
+        go : (a : Bool) → eqb (waiting f) 0 ≡ a → (b : Bool) → lead .waits ≡ b → (c : Bool)
+            → leb (lead .tag .0) (tag f) ≡ c
+            → LeadsBefore (suc end) (cond a lead (cond b (cond c lead (leadAt f (tag f))) (leadAt f (tag f))))
+        go true p b q c o = leads-stay λ w. absurd (omega (arith, eqb-true (waiting f) 0 p))
+        go false p true q true o = leads-stay λ w. (q, leb-true (lead .tag .0) (tag f) o)
+        go false p true q false o =
+            leads-move (omega (arith, eqb-false (waiting f) 0 p)) λ _. leb-false (lead .tag .0) (tag f) o
+        go false p false q c o = leads-move (omega (arith, eqb-false (waiting f) 0 p)) λ e. true-false (sym e ∙ q)
+
+  -- a stretch of flows, of which the k-th has the k-th place behind those before
+  leads-on : (end at count : ℕ) (lead : Lead) → LeadsBefore end lead → at + count ≤ n
+      → ((k : ℕ) → k < count → place (at + k) ≡ end + k)
+      → LeadsBefore (end + count) (leadOn tag waiting lead at count)
+  unfolding leadOn
+  leads-on end at zero lead L h each = simp unary-clauses L
+  leads-on end at (suc count) lead L h each = simp unary-clauses
+      (leads-more (end + count) (at + count) (leadOn tag waiting lead at count)
+      (leads-on end at count lead L (omega arith) (λ k m. each k (omega arith)))
+      (omega arith) (each count (omega arith)))
+
+  -- from flow `from` on and then from 0 up to it: all of them
+  leads-all : LeadsBefore (0 + (n - from) + from)
+      (leadOn tag waiting (leadOn tag waiting noLead from (n - from)) 0 from)
+  leads-all = leads-on (0 + (n - from)) 0 from _
+      (leads-on 0 from (n - from) noLead none-before (omega arith)
+      (λ k m. place-high from n (from + k) (omega arith) ∙ omega arith))
+      (omega arith) (λ k m. place-low from n (0 + k) (omega arith) ∙ omega arith)
+
+-- the leader among the first n flows, looked at from the turn on, is a waiting flow of smallest tag, and the first of these
 pub leads : (turn : ℕ) (tag waiting : ℕ → ℕ) (n : ℕ) → Leads turn tag waiting n (leadBy turn tag waiting n)
 unfolding leadBy
-leads turn tag waiting zero = leads-none turn tag waiting
-leads turn tag waiting (suc n) =
-    leads-more turn tag waiting n (leadBy turn tag waiting n) (leads turn tag waiting n)
+leads turn tag waiting n =
+    record {
+      smallest = small;
+      own = L .own;
+      first = λ t few e.
+          record {
+            smallest = small e;
+            nearest = λ g l w q. earlier-nearer turn n _ g t few (L .counts e) l
+                (L .earliest e g l (reached g l) w (q ∙ L .own e));
+          };
+      nobody = λ e g l. L .nobody e g l (reached g l);
+    }
+  where
+    from : ℕ
+    from = searchFrom turn n
+
+    inside : from ≤ n
+    inside = search-inside turn n
+
+    lead : Lead
+    lead = leadOn tag waiting (leadOn tag waiting noLead from (n - from)) 0 from
+
+    L : LeadsBefore tag waiting n from inside (0 + (n - from) + from) lead
+    L = leads-all tag waiting n from inside
+
+    reached : (g : ℕ) → g < n → placeIn from n g < 0 + (n - from) + from
+    reached g l = omega (arith, inside, place-below from n inside g l)
+
+    small : lead .waits ≡ true → Smallest tag waiting n (lead .flow)
+    small e =
+        record {
+          counts = L .counts e;
+          waits = L .waits e;
+          least = λ g l w. omega (arith, L .own e, L .least e g l (reached g l) w);
+        }
 
 -- no tag of the first n is what stands for none
 pub record Tagged (tags : List ℕ) (n : ℕ) : Type 0 where
   pub each : (f : ℕ) → f < n → getD tags f 0 < noTag
+
+-- a leader told by its flow and its tag alone: 64 is nobody, and nobody's tag is what stands for none
+pub record Led (lead : Lead) : Type 0 where
+  pub told : lead .waits ≡ ltb (lead .flow) 64
+  pub few : lead .flow ≤ 64
+  pub high : lead .tag .0 ≤ noTag
+  pub none : lead .waits ≡ false → lead .tag .0 ≡ noTag
 
 -- a leader with s added to its tag
 abbrev pub further : ℕ → Lead → Lead
 further s lead =
     record { waits = lead .waits; flow = lead .flow; tag = ticks (cond (lead .waits) (lead .tag .0 + s) noTag) }
 
--- with s added to both tags the same flow goes before
-before-further : (s turn f tag g other : ℕ)
-    → goesBefore turn f (tag + s) g (other + s) ≡ goesBefore turn f tag g other
-before-further s turn f tag g other =
-    before-rank turn f (tag + s) g (other + s)
-    ∙ same-lt (rank turn f (tag + s)) (rank turn g (other + s)) (rank turn f tag) (rank turn g other)
-    (λ h. omega arith) (λ h. omega arith)
-    ∙ sym (before-rank turn f tag g other)
-
 -- it is passed where it is passed without
-further-ahead : (s turn tag more waiting n : ℕ) (lead : Lead) → (0 < waiting → more ≡ tag + s)
-    → ahead turn (further s lead) more waiting n ≡ further s (ahead turn lead tag waiting n)
+further-ahead : (s tag more waiting n : ℕ) (lead : Lead) → (0 < waiting → more ≡ tag + s)
+    → ahead (further s lead) more waiting n ≡ further s (ahead lead tag waiting n)
 unfolding ahead
-further-ahead s turn tag more waiting n lead same =
-    go (eqb waiting 0) refl (lead .waits) refl (goesBefore turn n tag (lead .flow) (lead .tag .0)) refl
+further-ahead s tag more waiting n lead same = go (eqb waiting 0) refl (lead .waits) refl (leb (lead .tag .0) tag) refl
   where
     more-waits : eqb waiting 0 ≡ false → more ≡ tag + s
     more-waits p = same (omega (arith, eqb-false waiting 0 p))
 
-    go : (a : Bool) → eqb waiting 0 ≡ a → (b : Bool) → lead .waits ≡ b → (c : Bool)
-        → goesBefore turn n tag (lead .flow) (lead .tag .0) ≡ c
-        → ahead turn (further s lead) more waiting n ≡ further s (ahead turn lead tag waiting n)
+    go : (a : Bool) → eqb waiting 0 ≡ a → (b : Bool) → lead .waits ≡ b → (c : Bool) → leb (lead .tag .0) tag ≡ c
+        → ahead (further s lead) more waiting n ≡ further s (ahead lead tag waiting n)
     go true p b q c t = rw p
-    go false p true q true t =
-        rw (p, q, more-waits p, before-further s turn n tag (lead .flow) (lead .tag .0), t)
-    go false p true q false t =
-        rw (p, q, more-waits p, before-further s turn n tag (lead .flow) (lead .tag .0), t)
+    go false p true q true t = rw (
+      p,
+      q,
+      more-waits p,
+      t,
+      le-leb (lead .tag .0 + s) (tag + s)
+          (omega (arith, leb-true (lead .tag .0) tag t)),
+    )
+    go false p true q false t = rw (
+      p,
+      q,
+      more-waits p,
+      t,
+      lt-leb (lead .tag .0 + s) (tag + s)
+          (omega (arith, leb-false (lead .tag .0) tag t)),
+    )
     go false p false q c t = rw (p, q, more-waits p)
+
+further-on : (tag more waiting : ℕ → ℕ) (s from count : ℕ) (lead : Lead)
+    → ((f : ℕ) → f < from + count → 0 < waiting f → more f ≡ tag f + s)
+    → leadOn more waiting (further s lead) from count ≡ further s (leadOn tag waiting lead from count)
+unfolding leadOn
+further-on tag more waiting s from zero lead same = refl
+further-on tag more waiting s from (suc count) lead same =
+    let f = from + count in
+    ap (λ leader. ahead leader (more f) (waiting f) f)
+    (further-on tag more waiting s from count lead (λ g h. same g (omega arith)))
+    ∙ further-ahead s (tag f) (more f) (waiting f) f (leadOn tag waiting lead from count) (same f (omega arith))
 
 -- where the tags of all that wait are more by s, the same flow leads
 pub leads-further : (turn : ℕ) (tag more waiting : ℕ → ℕ) (s n : ℕ)
     → ((f : ℕ) → f < n → 0 < waiting f → more f ≡ tag f + s)
     → leadBy turn more waiting n ≡ further s (leadBy turn tag waiting n)
 unfolding leadBy
-leads-further turn tag more waiting s zero same = refl
-leads-further turn tag more waiting s (suc n) same =
-    ap (λ lead. ahead turn lead (more n) (waiting n) n)
-    (leads-further turn tag more waiting s n (λ f h. same f (omega arith)))
-    ∙ further-ahead s turn (tag n) (more n) (waiting n) n (leadBy turn tag waiting n) (same n (omega arith))
+leads-further turn tag more waiting s n same = let from = searchFrom turn n in
+    ap (λ lead. leadOn more waiting lead 0 from)
+    (further-on tag more waiting s from (n - from) noLead (λ f h. same f (omega (arith, search-inside turn n))))
+    ∙ further-on tag more waiting s 0 from (leadOn tag waiting noLead from (n - from))
+    (λ f h. same f (omega (arith, search-inside turn n)))
+
+same-on : (tag other waiting : ℕ → ℕ) (from count : ℕ) (lead : Lead) → ((f : ℕ) → f < from + count → other f ≡ tag f)
+    → leadOn other waiting lead from count ≡ leadOn tag waiting lead from count
+unfolding leadOn
+same-on tag other waiting from zero lead same = refl
+same-on tag other waiting from (suc count) lead same =
+    let f = from + count in
+    ap₂ (λ leader t. ahead leader t (waiting f) f) (same-on tag other waiting from count lead (λ g h. same g (omega arith)))
+    (same f (omega arith))
 
 -- where the first n have the same tags, the same flow leads
 pub leads-same : (turn : ℕ) (tag other waiting : ℕ → ℕ) (n : ℕ) → ((f : ℕ) → f < n → other f ≡ tag f)
     → leadBy turn other waiting n ≡ leadBy turn tag waiting n
 unfolding leadBy
-leads-same turn tag other waiting zero same = refl
-leads-same turn tag other waiting (suc n) same =
-    ap₂ (λ lead t. ahead turn lead t (waiting n) n)
-    (leads-same turn tag other waiting n (λ f h. same f (omega arith)))
-    (same n (omega arith))
+leads-same turn tag other waiting n same = let from = searchFrom turn n in
+    ap (λ lead. leadOn other waiting lead 0 from)
+    (same-on tag other waiting from (n - from) noLead (λ f h. same f (omega (arith, search-inside turn n))))
+    ∙ same-on tag other waiting 0 from (leadOn tag waiting noLead from (n - from))
+    (λ f h. same f (omega (arith, search-inside turn n)))

@@ -55,7 +55,7 @@ first-by-turn =
           (first-arrival.joining s f length) (first-arrival.storeRule s f length handle) refl;
       picks = λ s. let r = s .held in
           pick-picked firstEngine s (first-form.formed r (s .lengths)) (ltb (r .clock .0) first-pick.clockLimit)
-          (first-pick.serveRule s) (first-pick.idleRule s) _ (λ e. formed-out r (s .lengths) e .few)
+          (first-pick.serveRule s) (first-pick.idleRule s) _ (λ e. let F = formed-out r (s .lengths) e in (F .turn, F .few))
           (λ f. refl) (λ f. refl) refl refl;
     }
 
@@ -94,7 +94,7 @@ plain-by-turn =
       picks = λ s. let r = s .held in
           pick-picked plainEngine s (plain-form.formed r (s .lengths))
           (ltb (r .clock .0 + r .sum .0) first-pick.clockLimit) (plain-pick.serveRule s) (plain-pick.idleRule s) _
-          (λ e. formed-out (raisedRecord r) (s .lengths) e .few) (λ f. refl)
+          (λ e. let F = formed-out (raisedRecord r) (s .lengths) e in (F .turn, F .few)) (λ f. refl)
           (λ f. leapt-turn (plain-pick.chosenRecord r f) (plain-pick.leapt r f)) refl refl;
     }
 

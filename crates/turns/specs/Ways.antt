@@ -4,7 +4,7 @@
 use mathlib.Core.Path.{_≡_, refl, sym, _∙_}
 use mathlib.Core.Bool.{Bool, true, false, cond}
 use mathlib.Core.List.{List, _∷_}
-use Prim.Native.Nat.{ℕ, _≤_}
+use Prim.Native.Nat.{ℕ, _≤_, _<_}
 use Rattle.reply.specs.Reply.{Reply, idle, done, refused}
 use Rattle.reply.specs.Replies.{refused-done, idle-done}
 use Rattle.reply.specs.State.{StateOf, OutcomeOf, kept, demand, unlessRefused, openedBy}
@@ -45,7 +45,7 @@ module _ {R : Type 0} (engine : Engine R) (s : StateOf R) where
 
   -- a pick goes by the turn where it serves who leads, with the turn one past it, and an Idle makes the turn 0
   pub pick-picked : (formed soon : Bool) (served : ℕ → OutcomeOf R) (idled : OutcomeOf R) (rest : ℕ → List ℕ)
-      → (formed ≡ true → engine .flows (s .held) ≤ 64)
+      → (formed ≡ true → (engine .turn (s .held) < 64) × (engine .flows (s .held) ≤ 64))
       → ((f : ℕ) → served f .reply ≡ done (f ∷ rest f))
       → ((f : ℕ) → engine .turn (served f .state .held) ≡ turnAfter f)
       → idled .reply ≡ idle → engine .turn (idled .state .held) ≡ 0
@@ -69,7 +69,8 @@ module _ {R : Type 0} (engine : Engine R) (s : StateOf R) where
           record {
             moves = λ last t. rw (tells f) (turns f);
             first = λ g other e. let told = tells f in
-                let same : f ≡ g = cc in rw (← same) (leads _ _ _ (engine .flows (s .held)) .first q, few p);
+                let same : f ≡ g = cc in
+                rw (← same) (leads _ _ _ (engine .flows (s .held)) .first (few p .0) (few p .1) q, few p .1);
           }
       go true true p false q soon =
           record { moves = λ last t. rw still resets; first = λ g other e. idle-done (sym still ∙ e) }

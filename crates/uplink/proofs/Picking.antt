@@ -74,9 +74,9 @@ gone-most gone header f first clock link lengths handles e l h = rw e (omega (ar
 module _ (r : Record) (lengths handles : List ℕ) (a : Bool) (l : a ≡ lent lengths handles) (lends : not a ≡ false)
     (b : Bool) (e : b ≡ formed r lengths) (fine : not b ≡ false) where
   -- no tag of a flow that counts stands for none
-  pub tagged : (r .turn < 64) × (r .flows ≤ 64) × Tagged (r .tags .0) (r .flows)
+  pub tagged : (r .flows ≤ 64) × Tagged (r .tags .0) (r .flows)
   tagged = let F = was-formed r lengths b e fine in
-      (F .turn, F .few, record { each = λ f h. omega (arith, tag-fits r lengths F f h) })
+      (F .few, record { each = λ f h. omega (arith, tag-fits r lengths F f h) })
 
   -- past refusals 1 and 2
   picked-on : (o : Outcome) → o ≡ chooseRule (state r lengths handles) → o ≡ pickRule (state r lengths handles)
@@ -104,13 +104,13 @@ module _ (r : Record) (lengths handles : List ℕ) (a : Bool) (l : a ≡ lent le
 
       module _ (soon : r .clock .0 < clockLimit) where
         pub leaving : (table : List ℕ) → table ≡ costs → Leaves r (lead .flow) table lengths handles
-        leaving table right = let chosen = leader .first (not-false (lead .waits) w) .smallest in
+        leaving table right = let chosen = leader .smallest (not-false (lead .waits) w) in
             leaves r (lead .flow) table lengths handles right (both-lent lengths handles a l lends)
             (was-formed r lengths b e fine) (chosen .counts) (chosen .waits) soon
 
         -- its tag is the leader's
         pub led-tag : lead .tag .0 < 2 ^ 63
-        led-tag = let chosen = leader .first (not-false (lead .waits) w) .smallest in
+        led-tag = let chosen = leader .smallest (not-false (lead .waits) w) in
             omega (arith, tag-fits r lengths (was-formed r lengths b e fine) (lead .flow) (chosen .counts), own)
 
         -- the front packet goes

@@ -11,7 +11,7 @@ use Rattle.queues.specs.Form.{ranged, lengthsFormed, spareQueue, tabled, queues
 use Rattle.queues.specs.Places.{joinReply}
 use Rattle.queues.specs.Opening.{field64, newQueues, faultFrom, tableReply, listsReply}
 use Rattle.tags.specs.Form.{tagFormed, tagsFormed}
-use Rattle.tags.specs.Choice.{ahead, leadBy}
+use Rattle.tags.specs.Choice.{ahead, leadOn, leadBy}
 use Rattle.uplink.specs.Flow.{spareFlow, joinedFlow, servedFlow}
 use Rattle.uplink.specs.Record.{blank, put}
 use Rattle.reply.specs.State.{state}
@@ -43,6 +43,6 @@ afterCall s pick = pickRule s
 unfoldable pub everyRule : Unit {0}
 unfolding allBelow sumBelow mostBelow listed costOf putQueue sharesOf widthOf ranged lengthsFormed spareQueue tabled
     queuesFormed queuesSpare joinReply field64 newQueues faultFrom tableReply listsReply tagFormed tagsFormed ahead
-    leadBy spareFlow joinedFlow servedFlow put clocksFormed restSpare turnFormed formed checked newRecord openingRule
+    leadOn leadBy spareFlow joinedFlow servedFlow put clocksFormed restSpare turnFormed formed checked newRecord openingRule
     storeRule joinRule serveRule idleRule chooseRule
 everyRule = tt

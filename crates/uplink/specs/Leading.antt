@@ -3,20 +3,20 @@
 -- Assumes nothing.
 use mathlib.Core.Path.{_≡_}
 use mathlib.Core.Bool.{true, false}
-use Prim.Native.Nat.{ℕ, _<_}
+use Prim.Native.Nat.{ℕ, _≤_, _<_}
 use Rattle.tags.specs.Choice.{Smallest, First}
 use Rattle.tags.specs.Chosen.{leads}
 use Rattle.uplink.specs.Record.{tagOf, waitingOf}
 use Rattle.uplink.specs.Pick.{leadOf}
 use Rattle.uplink.specs.declared.Record.{Record}
 
-pub lead-first : (r : Record) → leadOf r .waits ≡ true
-    → First (r .turn) (tagOf r) (waitingOf r) (r .flows) (leadOf r .flow)
-lead-first r = leads (r .turn) (tagOf r) (waitingOf r) (r .flows) .first
-
 pub lead-smallest : (r : Record) → leadOf r .waits ≡ true
     → Smallest (tagOf r) (waitingOf r) (r .flows) (leadOf r .flow)
-lead-smallest r e = lead-first r e .smallest
+lead-smallest r = leads (r .turn) (tagOf r) (waitingOf r) (r .flows) .smallest
 
 pub lead-nobody : (r : Record) → leadOf r .waits ≡ false → (f : ℕ) → f < r .flows → waitingOf r f ≡ 0
 lead-nobody r = leads (r .turn) (tagOf r) (waitingOf r) (r .flows) .nobody
+
+pub lead-first : (r : Record) → r .turn < 64 → r .flows ≤ 64 → leadOf r .waits ≡ true
+    → First (r .turn) (tagOf r) (waitingOf r) (r .flows) (leadOf r .flow)
+lead-first r = leads (r .turn) (tagOf r) (waitingOf r) (r .flows) .first
