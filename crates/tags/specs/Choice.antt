@@ -42,7 +42,8 @@ noLead = record { waits = false; flow = 64; tag = ticks noTag }
 abbrev pub leadAt : ℕ → ℕ → Lead
 leadAt f tag = record { waits = true; flow = f; tag = ticks tag }
 
--- flow f takes the lead where it waits and either nobody leads or its tag is smaller: of equals the first looked at stays
+-- flow f takes the lead where it waits and either nobody leads or its tag is smaller: of equals the first one that was
+-- looked at keeps it
 unfoldable pub ahead : Lead → ℕ → ℕ → ℕ → Lead
 ahead lead tag waiting f =
     cond (eqb waiting 0) lead

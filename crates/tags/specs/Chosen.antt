@@ -108,8 +108,8 @@ earlier-nearer turn n f g t few l m = go (ltb turn n) refl
         (λ a. absurd (omega arith))
         (λ a. placed 0 n g (Nearer (f - 0)) (λ b. absurd (omega arith)) (λ b h. omega arith))
 
--- So at any point the flows that have been looked at are those of a place before some other, and the leader is the first
--- among these.
+-- So at any point the flows that have been looked at are those of a place before some other, and the leader is the
+-- first among these.
 module _ (tag waiting : ℕ → ℕ) (n from : ℕ) (inside : from ≤ n) where
   abbrev place : ℕ → ℕ
   place = placeIn from n
@@ -228,7 +228,8 @@ module _ (tag waiting : ℕ → ℕ) (n from : ℕ) (inside : from ≤ n) where
       (λ k m. place-high from n (from + k) (omega arith) ∙ omega arith))
       (omega arith) (λ k m. place-low from n (0 + k) (omega arith) ∙ omega arith)
 
--- the leader among the first n flows, looked at from the turn on, is a waiting flow of smallest tag, and the first of these
+-- the leader among the first n flows, looked at from the turn on, is a waiting flow of smallest tag, and the first of
+-- these
 pub leads : (turn : ℕ) (tag waiting : ℕ → ℕ) (n : ℕ) → Leads turn tag waiting n (leadBy turn tag waiting n)
 unfolding leadBy
 leads turn tag waiting n =
@@ -341,7 +342,8 @@ unfolding leadOn
 same-on tag other waiting from zero lead same = refl
 same-on tag other waiting from (suc count) lead same =
     let f = from + count in
-    ap₂ (λ leader t. ahead leader t (waiting f) f) (same-on tag other waiting from count lead (λ g h. same g (omega arith)))
+    ap₂ (λ leader t. ahead leader t (waiting f) f)
+    (same-on tag other waiting from count lead (λ g h. same g (omega arith)))
     (same f (omega arith))
 
 -- where the first n have the same tags, the same flow leads

@@ -55,8 +55,8 @@ first-by-turn =
           (first-arrival.joining s f length) (first-arrival.storeRule s f length handle) refl;
       picks = λ s. let r = s .held in
           pick-picked firstEngine s (first-form.formed r (s .lengths)) (ltb (r .clock .0) first-pick.clockLimit)
-          (first-pick.serveRule s) (first-pick.idleRule s) _ (λ e. let F = formed-out r (s .lengths) e in (F .turn, F .few))
-          (λ f. refl) (λ f. refl) refl refl;
+          (first-pick.serveRule s) (first-pick.idleRule s) _
+          (λ e. let F = formed-out r (s .lengths) e in (F .turn, F .few)) (λ f. refl) (λ f. refl) refl refl;
     }
 
 -- the plain engine; the tag of a flow that waits is a natural number

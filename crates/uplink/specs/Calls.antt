@@ -43,6 +43,6 @@ afterCall s pick = pickRule s
 unfoldable pub everyRule : Unit {0}
 unfolding allBelow sumBelow mostBelow listed costOf putQueue sharesOf widthOf ranged lengthsFormed spareQueue tabled
     queuesFormed queuesSpare joinReply field64 newQueues faultFrom tableReply listsReply tagFormed tagsFormed ahead
-    leadOn leadBy spareFlow joinedFlow servedFlow put clocksFormed restSpare turnFormed formed checked newRecord openingRule
-    storeRule joinRule serveRule idleRule chooseRule
+    leadOn leadBy spareFlow joinedFlow servedFlow put clocksFormed restSpare turnFormed formed checked newRecord
+    openingRule storeRule joinRule serveRule idleRule chooseRule
 everyRule = tt
