@@ -3,9 +3,10 @@
 -- Assumes nothing.
 use mathlib.Core.Path.{_≡_, refl}
 use mathlib.Core.Bool.{Bool, true, false, cond}
-use mathlib.Core.List.{List}
-use Prim.Native.Nat.{_+_}
+use mathlib.Core.List.{List, _∷_}
+use Prim.Native.Nat.{ℕ, _+_}
 use lib.Dec.{ltb}
+use Rattle.reply.specs.Reply.{done}
 use Rattle.reply.specs.State.{StateOf}
 use Rattle.queues.specs.Places.{joinReply}
 use Rattle.queues.specs.Opening.{listsReply}
@@ -27,7 +28,7 @@ use Rattle.backward.specs.Arrival as plain-arrival
 use Rattle.backward.specs.Pick as plain-pick
 use Rattle.backward.specs.Calls as plain
 use Rattle.backward.specs.declared.Record as plain-declared
-use Rattle.turns.specs.Fair.{Last, nobody, turnOf, Engine, LosesTies, endOf, lastOf, ByTurn, turn-is}
+use Rattle.turns.specs.Fair.{Last, nobody, turnOf, Engine, FirstIn, LosesTies, endOf, lastOf, ByTurn, turn-is}
 use Rattle.turns.specs.Fair.{loses-ties}
 use Rattle.turns.specs.Ways.{opening-turn, arrival-turn, pick-picked}
 
@@ -98,6 +99,12 @@ plain-by-turn =
           (λ f. leapt-turn (plain-pick.chosenRecord r f) (plain-pick.leapt r f)) refl refl;
     }
 
+-- The flow that a pick of the first engine tells, on any record and memories: of the waiting flows of smallest tag it is
+-- the first at or after the turn, counting round.
+pub first-engine-picks : (s : StateOf first-declared.Record) (f : ℕ) (rest : List ℕ)
+    → first-pick.pickRule s .reply ≡ done (f ∷ rest) → FirstIn firstEngine (s .held) f
+first-engine-picks s = first-by-turn .picks s .first
+
 -- In every run of the first engine the flow picked last loses every tie: from the blank record on, and from any state
 -- whose turn is one past the flow picked last.
 pub first-engine-fair : (calls : List Call) → LosesTies firstEngine nobody first.start calls
@@ -113,6 +120,10 @@ pub first-engine-turn : (calls : List Call)
 first-engine-turn calls = turn-is firstEngine first-by-turn nobody first.start calls refl
 
 -- The same of the plain engine.
+pub plain-engine-picks : (s : StateOf plain-declared.Record) (f : ℕ) (rest : List ℕ)
+    → plain-pick.pickRule s .reply ≡ done (f ∷ rest) → FirstIn plainEngine (s .held) f
+plain-engine-picks s = plain-by-turn .picks s .first
+
 pub plain-engine-fair : (calls : List Call) → LosesTies plainEngine nobody plain.start calls
 plain-engine-fair calls = loses-ties plainEngine plain-by-turn nobody plain.start calls refl
 

@@ -1,10 +1,9 @@
--- What the leader of a record is: whatever the tie rule, a flow of smallest tag; by document 02 e) the first of these
--- at or after the turn; and where nobody leads nobody waits.
+-- What the leader of a record is, whatever the tie rule: a flow of smallest tag; and where nobody leads nobody waits.
 -- Assumes nothing.
 use mathlib.Core.Path.{_≡_}
 use mathlib.Core.Bool.{true, false}
-use Prim.Native.Nat.{ℕ, _≤_, _<_}
-use Rattle.tags.specs.Choice.{Smallest, First}
+use Prim.Native.Nat.{ℕ, _<_}
+use Rattle.tags.specs.Choice.{Smallest}
 use Rattle.tags.specs.Chosen.{leads}
 use Rattle.uplink.specs.Record.{tagOf, waitingOf}
 use Rattle.uplink.specs.Pick.{leadOf}
@@ -16,7 +15,3 @@ lead-smallest r = leads (r .turn) (tagOf r) (waitingOf r) (r .flows) .smallest
 
 pub lead-nobody : (r : Record) → leadOf r .waits ≡ false → (f : ℕ) → f < r .flows → waitingOf r f ≡ 0
 lead-nobody r = leads (r .turn) (tagOf r) (waitingOf r) (r .flows) .nobody
-
-pub lead-first : (r : Record) → r .turn < 64 → r .flows ≤ 64 → leadOf r .waits ≡ true
-    → First (r .turn) (tagOf r) (waitingOf r) (r .flows) (leadOf r .flow)
-lead-first r = leads (r .turn) (tagOf r) (waitingOf r) (r .flows) .first
