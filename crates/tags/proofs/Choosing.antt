@@ -11,7 +11,8 @@ use borrow.Author.Tests.{ltb-true, ltb-false, lt-ltb, le-ltb, le-leb, lt-leb}
 use Rattle.below.specs.Truth.{true-false}
 use Rattle.tags.specs.declared.choice.Lead.{Lead}
 use Rattle.tags.specs.Choice.{noTag, noLead, keyOf, leadAt, ahead, leadOn, searchFrom, leadBy}
-use Rattle.tags.specs.Chosen.{search-inside, Tagged, Led}
+use Rattle.tags.specs.Searched.{search-inside}
+use Rattle.tags.specs.Chosen.{Tagged, Led}
 
 -- at the turn where it is inside the table, and else at flow 0
 module _ (turn n : ℕ) where
