@@ -1,5 +1,5 @@
--- The search for the smallest tag on its way: the order in which the flows are looked at, and who leads among those that
--- have been.
+-- The search for the smallest tag on its way: the order in which the flows are looked at, and who leads among those
+-- that have been.
 -- Assumes nothing.
 use mathlib.Core.Path.{_≡_, refl, sym, _∙_}
 use mathlib.Core.Bool.{Bool, true, false, cond}

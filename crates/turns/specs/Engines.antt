@@ -99,8 +99,8 @@ plain-by-turn =
           (λ f. leapt-turn (plain-pick.chosenRecord r f) (plain-pick.leapt r f)) refl refl;
     }
 
--- The flow that a pick of the first engine tells, on any record and memories: of the waiting flows of smallest tag it is
--- the first at or after the turn, counting round.
+-- The flow that a pick of the first engine tells, on any record and memories: of the waiting flows of smallest tag it
+-- is the first at or after the turn, counting round.
 pub first-engine-picks : (s : StateOf first-declared.Record) (f : ℕ) (rest : List ℕ)
     → first-pick.pickRule s .reply ≡ done (f ∷ rest) → FirstIn firstEngine (s .held) f
 first-engine-picks s = first-by-turn .picks s .first
