@@ -27,7 +27,7 @@ refusals (done values) = 0
 refusals (refused number flow) = 1
 
 -- the flow that a pick's reply tells
-abbrev flowTold : Reply → ℕ
+abbrev pub flowTold : Reply → ℕ
 flowTold idle = 0
 flowTold (done values) = getD values 0 0
 flowTold (refused number flow) = 0

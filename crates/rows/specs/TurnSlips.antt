@@ -4,9 +4,7 @@
 use mathlib.Core.Path.{_≡_, refl}
 use mathlib.Core.List.{[], _∷_}
 use Prim.Native.Nat.{ℕ, _+_, _-_}
-use lib.ListN.{getD}
 use Rattle.below.specs.Truth.{apart}
-use Rattle.reply.specs.Reply.{Reply, idle, done, refused}
 use Rattle.tags.specs.Choice.{leadBy}
 use Rattle.uplink.specs.Record.{tagOf, waitingOf, turned}
 use Rattle.uplink.specs.State.{State, Outcome}
@@ -15,13 +13,8 @@ use Rattle.uplink.specs.Pick.{serveRule, pickRule}
 use Rattle.uplink.specs.Calls.{arrival}
 use Rattle.rows.specs.Script.{run}
 use Rattle.rows.specs.Altered.{reheld, whenDone, whenIdle, whenPicked}
+use Rattle.rows.specs.StandIns.{flowTold}
 use Rattle.rows.specs.TurnRows.{after8, after62}
-
--- the flow that a pick's reply tells
-abbrev flowTold : Reply → ℕ
-flowTold idle = 64
-flowTold (done values) = getD values 0 0
-flowTold (refused number flow) = 64
 
 -- the lowest number wins again: the search begins at flow 0, whatever the turn
 abbrev pub lowestWins : State → Outcome

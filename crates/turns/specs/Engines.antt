@@ -3,11 +3,8 @@
 -- Assumes nothing.
 use mathlib.Core.Path.{_≡_, refl}
 use mathlib.Core.Bool.{Bool, true, false, cond}
-use mathlib.Core.List.{List, _∷_}
-use Prim.Native.Nat.{ℕ, _+_}
+use Prim.Native.Nat.{_+_}
 use lib.Dec.{ltb}
-use Rattle.reply.specs.Reply.{done}
-use Rattle.reply.specs.State.{StateOf}
 use Rattle.queues.specs.Places.{joinReply}
 use Rattle.queues.specs.Opening.{listsReply}
 use Rattle.signs.specs.Tags.{natural}
@@ -18,7 +15,6 @@ use Rattle.uplink.specs.Opening as first-opening
 use Rattle.uplink.specs.Arrival as first-arrival
 use Rattle.uplink.specs.Pick as first-pick
 use Rattle.uplink.specs.Calls as first
-use Rattle.uplink.specs.Calls.{Call}
 use Rattle.uplink.specs.declared.Record as first-declared
 use Rattle.backward.specs.Record as plain-record
 use Rattle.backward.specs.Raised.{raisedRecord}
@@ -28,8 +24,7 @@ use Rattle.backward.specs.Arrival as plain-arrival
 use Rattle.backward.specs.Pick as plain-pick
 use Rattle.backward.specs.Calls as plain
 use Rattle.backward.specs.declared.Record as plain-declared
-use Rattle.turns.specs.Fair.{Last, nobody, turnOf, Engine, FirstIn, LosesTies, endOf, lastOf, ByTurn, turn-is}
-use Rattle.turns.specs.Fair.{loses-ties}
+use Rattle.turns.specs.Fair.{Engine, ByTurn, Fair, by-turn-fair}
 use Rattle.turns.specs.Ways.{opening-turn, arrival-turn, pick-picked}
 
 -- the first engine
@@ -99,38 +94,9 @@ plain-by-turn =
           (λ f. leapt-turn (plain-pick.chosenRecord r f) (plain-pick.leapt r f)) refl refl;
     }
 
--- The flow that a pick of the first engine tells, on any record and memories: of the waiting flows of smallest tag it
--- is the first at or after the turn, counting round.
-pub first-engine-picks : (s : StateOf first-declared.Record) (f : ℕ) (rest : List ℕ)
-    → first-pick.pickRule s .reply ≡ done (f ∷ rest) → FirstIn firstEngine (s .held) f
-first-engine-picks s = first-by-turn .picks s .first
+-- Each is fair among equals, from the blank record on.
+pub first-engine-fair : Fair firstEngine first.start
+first-engine-fair = by-turn-fair firstEngine first-by-turn first.start refl
 
--- In every run of the first engine the flow picked last loses every tie: from the blank record on, and from any state
--- whose turn is one past the flow picked last.
-pub first-engine-fair : (calls : List Call) → LosesTies firstEngine nobody first.start calls
-first-engine-fair calls = loses-ties firstEngine first-by-turn nobody first.start calls refl
-
-pub first-engine-fair-from : (last : Last) (s : StateOf first-declared.Record) (calls : List Call)
-    → s .held .turn ≡ turnOf last → LosesTies firstEngine last s calls
-first-engine-fair-from = loses-ties firstEngine first-by-turn
-
--- and its turn is "one past the last flow picked, 63 to 0, and 0 after an opening or Idle"
-pub first-engine-turn : (calls : List Call)
-    → endOf firstEngine first.start calls .held .turn ≡ turnOf (lastOf firstEngine nobody first.start calls)
-first-engine-turn calls = turn-is firstEngine first-by-turn nobody first.start calls refl
-
--- The same of the plain engine.
-pub plain-engine-picks : (s : StateOf plain-declared.Record) (f : ℕ) (rest : List ℕ)
-    → plain-pick.pickRule s .reply ≡ done (f ∷ rest) → FirstIn plainEngine (s .held) f
-plain-engine-picks s = plain-by-turn .picks s .first
-
-pub plain-engine-fair : (calls : List Call) → LosesTies plainEngine nobody plain.start calls
-plain-engine-fair calls = loses-ties plainEngine plain-by-turn nobody plain.start calls refl
-
-pub plain-engine-fair-from : (last : Last) (s : StateOf plain-declared.Record) (calls : List Call)
-    → s .held .turn ≡ turnOf last → LosesTies plainEngine last s calls
-plain-engine-fair-from = loses-ties plainEngine plain-by-turn
-
-pub plain-engine-turn : (calls : List Call)
-    → endOf plainEngine plain.start calls .held .turn ≡ turnOf (lastOf plainEngine nobody plain.start calls)
-plain-engine-turn calls = turn-is plainEngine plain-by-turn nobody plain.start calls refl
+pub plain-engine-fair : Fair plainEngine plain.start
+plain-engine-fair = by-turn-fair plainEngine plain-by-turn plain.start refl

@@ -92,6 +92,21 @@ module _ {R : Type 0} (engine : Engine R) where
         → engine .turn (engine .after s (arrival f length handle) .state .held) ≡ engine .turn (s .held)
     pub picks : (s : StateOf R) → Picked s (engine .after s pick)
 
+-- fair among equals, of an engine and the state before its first call
+pub record Fair {R : Type 0} (engine : Engine R) (start : StateOf R) : Type 0 where
+  -- the flow that a pick tells, on any record and memories: of the waiting flows of smallest tag it is the first at or
+  -- after the turn, counting round
+  pub tells : (s : StateOf R) (f : ℕ) (rest : List ℕ) → engine .after s pick .reply ≡ done (f ∷ rest)
+      → FirstIn engine (s .held) f
+  -- in every run the flow picked last loses every tie,
+  pub loses : (calls : List Call) → LosesTies engine nobody start calls
+  -- also from any state whose turn is one past the flow picked last
+  pub loses-from : (last : Last) (s : StateOf R) (calls : List Call) → engine .turn (s .held) ≡ turnOf last
+      → LosesTies engine last s calls
+  -- "The record gains the turn ..: one past the last flow picked, 63 to 0, and 0 after an opening or Idle", in every run
+  pub turns : (calls : List Call)
+      → engine .turn (endOf engine start calls .held) ≡ turnOf (lastOf engine nobody start calls)
+
 -- the first from the turn on has the smallest tag alone where it is the flow picked last
 last-alone : (tag waiting : ℕ → ℕ) (n f : ℕ) → n ≤ 64 → First (turnAfter f) tag waiting n f → Alone tag waiting n f
 last-alone tag waiting n f few F g l w other = elim (ℕ-discrete (tag g) (tag f)) as (λ _. tag f < tag g) [
@@ -111,14 +126,14 @@ module _ {R : Type 0} (engine : Engine R) (B : ByTurn engine) where
   turn-after last s (arrival f length handle) t = B .arrives s f length handle ∙ t
   turn-after last s pick t = B .picks s .moves last t
 
-  -- "The record gains the turn .. one past the last flow picked, 63 to 0, and 0 after an opening or Idle", in every run
-  pub turn-is : (last : Last) (s : StateOf R) (calls : List Call) → engine .turn (s .held) ≡ turnOf last
+  -- and after all of them
+  turn-is : (last : Last) (s : StateOf R) (calls : List Call) → engine .turn (s .held) ≡ turnOf last
       → engine .turn (endOf engine s calls .held) ≡ turnOf (lastOf engine last s calls)
   turn-is last s [] t = t
   turn-is last s (call ∷ calls) t = turn-is _ _ calls (turn-after last s call t)
 
   -- the flow picked last loses every tie, in every run
-  pub loses-ties : (last : Last) (s : StateOf R) (calls : List Call) → engine .turn (s .held) ≡ turnOf last
+  loses-ties : (last : Last) (s : StateOf R) (calls : List Call) → engine .turn (s .held) ≡ turnOf last
       → LosesTies engine last s calls
   loses-ties last s [] t = tt
   loses-ties last s (call ∷ calls) t = (here call, loses-ties _ _ calls (turn-after last s call t))
@@ -129,3 +144,13 @@ module _ {R : Type 0} (engine : Engine R) (B : ByTurn engine) where
           let F = B .picks s .first f rest (rw is at told) in
           last-alone (engine .tag (s .held)) (engine .waiting (s .held)) (engine .flows (s .held)) f (F .1)
           (rw (t ∙ ap turnOf l) at (F .0))
+
+  -- so an engine that goes by the turn is fair, from a turn of 0 on
+  pub by-turn-fair : (start : StateOf R) → engine .turn (start .held) ≡ 0 → Fair engine start
+  by-turn-fair start zero =
+      record {
+        tells = λ s. B .picks s .first;
+        loses = λ calls. loses-ties nobody start calls zero;
+        loses-from = loses-ties;
+        turns = λ calls. turn-is nobody start calls zero;
+      }
