@@ -103,7 +103,8 @@ pub record Fair {R : Type 0} (engine : Engine R) (start : StateOf R) : Type 0 wh
   -- also from any state whose turn is one past the flow picked last
   pub loses-from : (last : Last) (s : StateOf R) (calls : List Call) → engine .turn (s .held) ≡ turnOf last
       → LosesTies engine last s calls
-  -- "The record gains the turn ..: one past the last flow picked, 63 to 0, and 0 after an opening or Idle", in every run
+  -- "The record gains the turn ..: one past the last flow picked, 63 to 0, and 0 after an opening or Idle", in every
+  -- run
   pub turns : (calls : List Call)
       → engine .turn (endOf engine start calls .held) ≡ turnOf (lastOf engine nobody start calls)
 
