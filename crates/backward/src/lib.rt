@@ -4,6 +4,8 @@
 // it added to clock and tags the record is the first engine's (crate `equal`).
 // Bookings, queues and memories are the crate `queues`, signed tags the crate `signs`. The three calls take any input
 // at all and end with a reply or one of document 01's ten numbered refusals.
+#![tactic(auto)]
+
 ghost use Rattle.std.specs.Prelude.{◌≡◌};
 ghost use Rattle.backward.specs.Record.{blank};
 

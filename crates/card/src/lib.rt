@@ -2,6 +2,8 @@
 // all and end with 0 or with the number of a refusal; nothing is written on any refusal.
 // Bytes 0 to 3 hold the block's number, 4 the number of entries, 5 to 11 zeros, 12 to 507 the 31 entries and 508 to 511
 // the two sums.
+#![tactic(auto)]
+
 mod legal;
 mod reader;
 mod writer;

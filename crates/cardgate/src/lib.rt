@@ -1,5 +1,7 @@
 // Reader and writer of the log card's blocks for C (document 02 d): the two calls of the crate `card` over a content of
 // 157 words that the caller keeps. include/card.h says to the caller what is lent.
+#![tactic(auto)]
+
 ghost use Rattle.std.specs.Prelude.{◌≡◌};
 ghost use Rattle.card.specs.Card.{written};
 ghost use Rattle.cardgate.specs.Calls.{card_write, told, card_read};

@@ -1,5 +1,7 @@
 // The log of calls (document 02 d): arrival and pick with the entry that each logs, and a block built entry by entry.
 // Calls that are refused log nothing, and an opening is not logged.
+#![tactic(auto)]
+
 ghost use Rattle.std.specs.Prelude.{◌≡◌, cond, [], ◌+◌};
 ghost use Rattle.reply.specs.Reply.{arrival_reply};
 ghost use Rattle.reply.specs.State.{state, outcome};

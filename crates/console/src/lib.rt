@@ -1,4 +1,6 @@
 // Standard input, read whole: what every program here begins with.
+#![tactic(auto)]
+
 ghost use Rattle.io.specs.Counts.{IsPrefixLen};
 
 use libc::STDIN_FILENO;

@@ -1,5 +1,7 @@
 // The entries of a log card (document 02 d): a call as sixteen bytes, and which entries are within the rules.
 // Units: lengths in bytes, clocks in server ticks.
+#![tactic(auto)]
+
 ghost use Rattle.std.specs.Prelude.{◌≡◌, length};
 ghost use Rattle.entries.specs.Entry.{entry_bytes, entry_of, no_entry};
 ghost use Rattle.entries.specs.Legal.{kind_of, packet_legal, rest_blank, entry_legal, entry_blank};

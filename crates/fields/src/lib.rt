@@ -1,5 +1,7 @@
 // Little-endian numbers in lent bytes: the fields of a log card's block (document 02 d). A field is a lent part, and as
 // wide as that part is.
+#![tactic(auto)]
+
 ghost use Rattle.std.specs.Prelude.{◌≡◌, ◌<◌, ◌≤◌, ◌^◌, length};
 ghost use Rattle.fields.specs.Bytes.{bytes_of, number_of};
 

@@ -3,6 +3,8 @@
 // An opening, an arrival or a pick writes its words back on every path, a refused opening zeros, a refused arrival or
 // pick the same as they were: so no copy of the record is left in the machine code.
 // include/uplink.h says to the caller what is lent and what each number means.
+#![tactic(auto)]
+
 ghost use Rattle.std.specs.Prelude.{◌≡◌, [], length, ◌<◌};
 ghost use Rattle.reply.specs.Reply.{done, packet};
 ghost use Rattle.uplink.specs.PickReply.{pick_reply};

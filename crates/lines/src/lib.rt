@@ -1,6 +1,8 @@
 // The lines of a script: document 01, "The script program". A line is read to a call, the call is made, and its reply
 // is written as a line. `read` takes any bytes, `Script::step` is the whole step from a state and a line to the next
 // state and the output line, and `Script::run` does as many lines of an input as its output buffer has room for.
+#![tactic(auto)]
+
 mod reading;
 mod running;
 mod steps;

@@ -2,6 +2,8 @@
 // `B E KIND FLOW LENGTH HANDLE CLOCK`: B the block's place in the input from 0, E the entry's from 1. A refused block
 // is the line `B refused NUMBER`. Fields are parted by one space, and a line ends at a line feed.
 // Room: a number has at most 20 digits, so an entry's line has at most 134 bytes and 31 of them have 4,154.
+#![tactic(auto)]
+
 ghost use Rattle.std.specs.Prelude.{◌+◌, ◌*◌, ◌≤◌, length, take};
 ghost use Rattle.lines.specs.Text.{Put};
 ghost use Rattle.listing.specs.Listing.{head_text, row_text, entry_line, refused_line, entries_lines, block_lines};

@@ -3,6 +3,8 @@
 // proved to the letter. This file is proved safe and to end: it counts the blocks, and the count stays below 2^64 - 1,
 // which is more than any input has. What no proof says, since no contract can speak of what is read or written, is that
 // it hands over the 512 bytes of each block in order, then a rest of fewer, and writes what it is given, once each.
+#![tactic(auto)]
+
 use libc::{STDERR_FILENO, STDOUT_FILENO};
 
 fn main() {

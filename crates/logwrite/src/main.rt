@@ -6,12 +6,14 @@
 // and once, that an opening that is done ends the log so far, and that an entry goes into the block, and a block to
 // standard output, as `feed` of `cardlog` has it: that this is the log is `fed_all` there. A line of more than 34 bytes is
 // bad whatever it says (`long_bad` of `lines`), so of a longer line the first 64 bytes are kept and say the same.
+#![tactic(auto)]
+
 ghost use Rattle.std.specs.Prelude.{◌≤◌, length};
 
 use card::Block;
+use cardlog::Noted;
 use libc::{STDERR_FILENO, STDOUT_FILENO};
 use lines::{Line, Script};
-use cardlog::Noted;
 use reply::OpeningReply;
 use uplink::Record;
 

@@ -2,6 +2,8 @@
 // program"), by leap backward (document 02 c), and writes the same lines with the plain engine's own tags and clock.
 // What a line says, the calls and the output lines are proved in `lines` and `backward`. This file is proved safe and to
 // end; that it hands each line over in order, and writes what it is given, is for the reader to see.
+#![tactic(auto)]
+
 ghost use Rattle.std.specs.Prelude.{◌≤◌, length};
 
 use backward::Record;

@@ -2,6 +2,8 @@
 // It knows no tag and no clock, so every engine has it as it stands. Source: document 01.
 // Units: lengths in bytes, costs in ticks a byte, shares in thousandths of the link.
 // Functions borrow the arrays that they look at; none takes all of `Queues`, which would be copied.
+#![tactic(auto)]
+
 ghost use Rattle.std.specs.Prelude.{◌≡◌};
 ghost use Rattle.queues.specs.Queues.{blank_queues};
 ghost use Rattle.queues.specs.Opening.{new_queues};

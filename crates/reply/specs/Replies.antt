@@ -53,7 +53,8 @@ opening_of = read OpeningReply.Done (λ _. OpeningReply.Done) OpeningReply.Refus
 
 opening_read : (a : OpeningReply) → opening_of (opening_reply a) ≡ a
 opening_read OpeningReply.Done = refl
-opening_read (OpeningReply.Refused why) = read_refusal _ _ _ why
+opening_read (OpeningReply.Refused why) =
+    read_refusal OpeningReply.Done (λ _. OpeningReply.Done) (λ w. OpeningReply.Refused w) why
 
 pub opening_reply_one : (a b : OpeningReply) → opening_reply a ≡ opening_reply b → a ≡ b
 opening_reply_one = one opening_reply opening_of opening_read
@@ -63,7 +64,8 @@ arrival_of = read ArrivalReply.Done (λ _. ArrivalReply.Done) ArrivalReply.Refus
 
 arrival_read : (a : ArrivalReply) → arrival_of (arrival_reply a) ≡ a
 arrival_read ArrivalReply.Done = refl
-arrival_read (ArrivalReply.Refused why) = read_refusal _ _ _ why
+arrival_read (ArrivalReply.Refused why) =
+    read_refusal ArrivalReply.Done (λ _. ArrivalReply.Done) (λ w. ArrivalReply.Refused w) why
 
 pub arrival_reply_one : (a b : ArrivalReply) → arrival_reply a ≡ arrival_reply b → a ≡ b
 arrival_reply_one = one arrival_reply arrival_of arrival_read

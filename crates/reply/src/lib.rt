@@ -1,4 +1,6 @@
 // The answers of the calls, and document 01's number for each refusal. Every engine answers with these.
+#![tactic(auto)]
+
 ghost use Rattle.std.specs.Prelude.{◌≡◌};
 ghost use Rattle.reply.specs.Reply.{refusal, reply_number, reply_flow};
 

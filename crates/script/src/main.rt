@@ -4,6 +4,8 @@
 // of what is read or written, is that it reads the first 65,536 bytes of standard input and that it writes each buffer
 // that `Script::run` fills, in order and once. Where it does, it writes what the document says (`program_written` of
 // `lines`).
+#![tactic(auto)]
+
 ghost use Rattle.std.specs.Prelude.{◌≤◌, length};
 
 use libc::{STDERR_FILENO, STDOUT_FILENO};

@@ -1,1 +1,2 @@
 // Demand 3, the shares: theorems only, in specs/.
+#![tactic(auto)]

@@ -1,5 +1,7 @@
 // The plain engine for C: the three calls of the crate `backward` over a block of 133 words that the caller keeps, so
 // that it can be tested and measured from outside. include/backward.h says to the caller what is lent.
+#![tactic(auto)]
+
 ghost use Rattle.std.specs.Prelude.{◌≡◌, [], length};
 ghost use Rattle.reply.specs.Reply.{opening_reply, arrival_reply};
 ghost use Rattle.uplink.specs.PickReply.{pick_reply};

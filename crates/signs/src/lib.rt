@@ -2,6 +2,8 @@
 // packet that comes to the front, the tags lowered at a leap, and the tags with the sum of the widths leapt added.
 // A flow with nothing waiting may have a tag at or under zero: specs/Tags.antt says what it means.
 // Units: server ticks.
+#![tactic(auto)]
+
 ghost use Rattle.std.specs.Prelude.{◌≡◌, ◌^◌, ◌<◌, max, pos, get_or, set};
 ghost use Rattle.std.specs.Int.Signed.{mag};
 ghost use Rattle.below.specs.Listed.{listed};

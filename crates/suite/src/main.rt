@@ -2,6 +2,8 @@
 // compared with what is stored. data/NAME.script holds the script and data/NAME.output what an independent second
 // program wrote for it. A line is written for each name. This file is proved safe and to end, and `check::same`
 // compares exactly; that its loop hands each line over in order is for the reader to see.
+#![tactic(auto)]
+
 use libc::STDOUT_FILENO;
 
 // What the comparison found.

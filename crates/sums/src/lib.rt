@@ -1,5 +1,7 @@
 // The two sums of a log card's block (document 02 d): the first over bytes 0 to 507, the second over the first's
 // running values, both modulo 65,535. They stand in bytes 508 to 511.
+#![tactic(auto)]
+
 ghost use Rattle.std.specs.Prelude.{◌≡◌, length};
 ghost use Rattle.fields.specs.Bytes.{part};
 ghost use Rattle.sums.specs.Sums.{sums_of, sums_right};

@@ -3,6 +3,8 @@
 // It knows no queue but the number waiting in each. Sources: document 01; source 000 (report WUCS-96-10), section 3,
 // for the leap and equation 3; source 003 for one tag a flow.
 // Link time and server time are two types. Tags stand in a third, and go in and out of it as server ticks only.
+#![tactic(auto)]
+
 mod choice;
 mod form;
 mod steps;

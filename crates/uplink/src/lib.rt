@@ -4,6 +4,8 @@
 // numbered refusals.
 // The waiting packets are in two lent memories of 4,096 places, one of lengths (bytes) and one of handles; flow f
 // owns places 64 f to 64 f + 63.
+#![tactic(auto)]
+
 ghost use Rattle.std.specs.Prelude.{◌≡◌};
 ghost use Rattle.uplink.specs.Record.{blank};
 
