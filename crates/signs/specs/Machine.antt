@@ -12,7 +12,7 @@ abbrev pub back : ℤ → ℤ
 back z = to_z w64 (of_z w64 z)
 
 pub back_is : (z : ℤ) → mag z < 2 ^ 63 → back z ≡ z
-back_is z h = to_z-of_z (record { sfits = h })
+back_is z h = to_z-of_z {w = w64} (record { sfits = h })
 
 -- what lies between -1 and a number, which fits for every number below zero
 abbrev pub under : ℤ → ℤ

@@ -14,12 +14,12 @@ ghost use Rattle.signs.specs.Bounds.{reach, Near};
 use tags::ServerTicks;
 
 // Server ticks with a sign.
-#[derive(Drop)]
+#[derive(Clone, Copy)]
 pub struct SignedTicks(pub i64);
 
 // The tag of each of 64 flows, in server ticks. Of a flow that waits it is the tag of its front packet, and at least
 // the clock; of any other, that of its last packet picked less the leaps since then, and it may be at or under zero.
-#[derive(Drop)]
+#[derive(Clone, Copy)]
 pub struct SignedTags(pub [i64; 64]);
 
 // Above every tag: 2^64 - 1.

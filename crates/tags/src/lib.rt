@@ -14,14 +14,14 @@ pub use form::are_formed;
 pub use steps::{Leapt, front_tag, leap, put_tag, tag_at};
 
 // Link ticks: what the radio has sent, at 720 ticks a byte. Source 000's real time.
-#[derive(Drop)]
+#[derive(Clone, Copy)]
 pub struct LinkTicks(pub u64);
 
 // Server ticks: link ticks and the leaps. Source 000's server clock; tags are counted in it.
-#[derive(Drop)]
+#[derive(Clone, Copy)]
 pub struct ServerTicks(pub u64);
 
 // The tag of each of 64 flows, in server ticks. Of a flow that waits it is the tag of its front packet; of any other,
 // that of its last packet picked, or 0.
-#[derive(Drop)]
+#[derive(Clone, Copy)]
 pub struct ServerTags(pub [u64; 64]);

@@ -1,17 +1,11 @@
 -- `uplink::Record::blank` meets its contract: every field is 0.
--- Assumes nothing.
 use mathlib.Core.Path.{ap}
 use lib.ListN.{replicate}
-use borrow.Author.Rules.{rules}
 use Rattle.tags.specs.Ticks.{ticks}
 use Rattle.uplink.specs.Record.{link_time, tags_of}
-use Rattle.uplink.proofs.Record.blank.Statement.{statement}
-use Rattle.uplink.proofs.Record.blank.Tie as tie
+use Rattle.uplink.proofs.Record.blank.Goals as goal
 
-blank-requires : tie.Need-blank-requires
-blank-requires c κs = search rules
-
-returns : tie.Need-returns
+pub returns : goal.returns
 returns c =
     ap (λ queues. record {
       flows = 0;
@@ -23,6 +17,3 @@ returns c =
       queues = queues;
       turn = 0;
     }) c.blank.ensures
-
-pub blank_spec : {M : Type 1} → statement M
-blank_spec = tie.close (tie.spec blank-requires returns)

@@ -1,0 +1,14 @@
+-- `signs::raised_tags` meets its contract. The loop's invariant: the entries before `at` are the tags with the
+-- sum added. The measure is what is left of the 64.
+use Prim.Native.Nat.{◌-◌}
+use lib.IntN.{pos}
+use lib.ListN.{get_or}
+use Rattle.below.specs.Made.{Made}
+use Rattle.signs.specs.Tags.{raised}
+use Rattle.signs.proofs.raised_tags.Given as goal
+
+abbrev pub invariant-loop-at : goal.invariant-loop-at
+invariant-loop-at l = Made (λ f. raised l.sum.0 (get_or l.tags f (pos 0))) 0 64 l.at l.all
+
+abbrev pub decreases-loop-at : goal.decreases-loop-at
+decreases-loop-at l = 64 - l.at
