@@ -24,7 +24,7 @@ pick_read : (a : PickReply) → pick_of (pick_reply a) ≡ a
 pick_read PickReply.Idle = refl
 pick_read (PickReply.Packet flow length handle tag true clock) = refl
 pick_read (PickReply.Packet flow length handle tag false clock) = refl
-pick_read (PickReply.Refused why) = read_refusal _ _ _ why
+pick_read (PickReply.Refused why) = read_refusal PickReply.Idle packet_of (λ w. PickReply.Refused w) why
 
 pub pick_reply_one : (a b : PickReply) → pick_reply a ≡ pick_reply b → a ≡ b
 pick_reply_one = one pick_reply pick_of pick_read
