@@ -16,7 +16,7 @@ mod opening;
 mod pick;
 
 // What the plain engine knows between two calls. The caller carries it, with both memories, unaltered.
-#[derive(Drop)]
+#[derive(Clone, Copy)]
 pub struct Record {
     // The number of flows, 1 to 64; flows beyond it are all zeros, their tags with the sum added.
     pub flows: u16,

@@ -20,7 +20,7 @@ pub use places::{Freed, are_lent, arrival_reply, field, free, go_on, join, leave
 
 // One array for each field. A flow's packets wait in a ring of its 64 places, from `first` on. All fields are 0 where
 // the flow is not in the table.
-#[derive(Drop)]
+#[derive(Clone, Copy)]
 pub struct Queues {
     // Thousandths of the link, 1 to 1,000.
     pub share: [u16; 64],

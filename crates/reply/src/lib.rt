@@ -5,7 +5,7 @@ ghost use Rattle.std.specs.Prelude.{◌≡◌};
 ghost use Rattle.reply.specs.Reply.{refusal, reply_number, reply_flow};
 
 // Why a call was refused. Document 01's numbers, in its order from 1 to 10, are given by `refusal` of specs/Reply.antt.
-#[derive(Drop)]
+#[derive(Clone, Copy)]
 pub enum Refusal {
     // A lent memory has not exactly 4,096 places.
     Memory,
@@ -29,13 +29,13 @@ pub enum Refusal {
     Clock,
 }
 
-#[derive(Drop)]
+#[derive(Clone, Copy)]
 pub enum OpeningReply {
     Done,
     Refused(Refusal),
 }
 
-#[derive(Drop)]
+#[derive(Clone, Copy)]
 pub enum ArrivalReply {
     Done,
     Refused(Refusal),

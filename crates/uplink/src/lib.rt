@@ -21,7 +21,7 @@ use reply::{ArrivalReply, OpeningReply, Refusal};
 use tags::{LinkTicks, ServerTags, ServerTicks};
 
 // What the scheduler knows between two calls. The caller carries it, with both memories, unaltered from call to call.
-#[derive(Drop)]
+#[derive(Clone, Copy)]
 pub struct Record {
     // The number of flows, 1 to 64; flows beyond it are all zeros.
     pub flows: u16,
@@ -43,7 +43,7 @@ pub struct Record {
     pub turn: u64,
 }
 
-#[derive(Drop)]
+#[derive(Clone, Copy)]
 pub enum PickReply {
     // Nothing waits.
     Idle,
