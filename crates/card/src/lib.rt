@@ -14,7 +14,7 @@ pub use reader::read_block;
 pub use writer::write_block;
 
 // A block's content: its number, how many entries are used (1 to 31), and all 31, the unused ones zeros.
-#[derive(Drop)]
+#[derive(Clone, Copy)]
 pub struct Block {
     pub number: u32,
     pub count: u8,

@@ -7,7 +7,7 @@ ghost use Rattle.entries.specs.Entry.{entry_bytes, entry_of, no_entry};
 ghost use Rattle.entries.specs.Legal.{kind_of, packet_legal, rest_blank, entry_legal, entry_blank};
 
 // One call as the card has it.
-#[derive(Drop)]
+#[derive(Clone, Copy)]
 pub struct Entry {
     // What call it was, 1 to 4; 0 where the entry is not used.
     pub kind: u8,

@@ -1,0 +1,25 @@
+-- `card::reader::read_block` meets its contract: one law for each way through it.
+use Rattle.std.proofs.Common.{rules}
+use Rattle.card.proofs.Ways.{read_short, read_sums, read_head, read_field, read_done}
+use Rattle.card.proofs.legal.block_legal.Reads as block-legal-reads
+use Rattle.card.proofs.reader.block_of.Reads as block-of-reads
+use Rattle.card.proofs.reader.refused.Reads as refused-reads
+use Rattle.fields.proofs.read_number.Reads as read-number-reads
+use Rattle.sums.proofs.sums_right.Reads as sums-right-reads
+use Rattle.card.proofs.reader.read_block.Goals as goal
+
+pub returns-then-bytes-ne512 : goal.returns-then-bytes-ne512
+returns-then-bytes-ne512 c = search (rules, read_short)
+
+pub returns-then-not-sums_right : goal.returns-then-not-sums_right
+returns-then-not-sums_right c = search (rules, read_sums)
+
+pub returns-then-zeros-ne0 : goal.returns-then-zeros-ne0
+returns-then-zeros-ne0 c = search (rules, read_head)
+
+pub returns-then-not-block_legal : goal.returns-then-not-block_legal
+returns-then-not-block_legal c = search (rules, read_field)
+
+-- fields: ['exact']
+pub returns : goal.returns
+returns c = search (rules, read_done)
