@@ -1,0 +1,13 @@
+use Rattle.std.proofs.Common.{rules}
+use Prim.Native.Nat.{◌-◌}
+use Rattle.cardgate.proofs.Words.{filling_none, filling_more, filling_all}
+use Rattle.cardgate.proofs.content.write_entries.Goals as goal
+
+pub loop-place-init : goal.loop-place-init
+loop-place-init c = search (rules, filling_none)
+
+pub loop-place-preserved : goal.loop-place-preserved
+loop-place-preserved c = search (rules, filling_more)
+
+pub returns : goal.returns
+returns c = search (rules, filling_all)
