@@ -1,7 +1,7 @@
 -- What each way through an exported call gives, as its definition has it.
 -- Assumes nothing.
 use mathlib.Core.Path.{◌≡◌, refl, sym, ap, ◌∙◌}
-use mathlib.Core.Bool.{Bool, and_false}
+use mathlib.Core.Bool.{Bool, and-false}
 use mathlib.Core.Logic.{◌⊎◌, inl, inr}
 use mathlib.Core.List.{List, []}
 use Prim.Native.Nat.{ℕ, ◌+◌, ◌*◌, ◌%◌, ◌^◌, ◌≤◌, ◌<◌}
@@ -199,7 +199,7 @@ module _ (flow : ℕ) (block reply : List ℕ) where
     depth_refused number n (inl over) =
         depth_told number reply (refused 7 0) (rw (le-ltb flow (get_or block 0 0 % 2 ^ 16) over)) n refl
     depth_refused number n (inr over) =
-        depth_told number reply (refused 7 0) (rw (le-ltb flow 64 over, and_false)) n refl
+        depth_told number reply (refused 7 0) (rw (le-ltb flow 64 over, and-false)) n refl
 
     pub depth_done : (reply' : List ℕ) → flow < get_or block 0 0 % 2 ^ 16 → flow < 64
         → done reply' ≡ depth_of (flow_at (record_of block) flow)
