@@ -129,13 +129,19 @@ module _ {R : Type 0} (engine : Engine R) (B : ByTurn engine) where
   turn_is_lem : (last : Last) (s : StateOf R) (calls : List Call) → engine.turn s.held ≡ turn_of last
       → engine.turn (end_of engine s calls).held ≡ turn_of (last_of engine last s calls)
   turn_is_lem last s [] t = t
-  turn_is_lem last s (call ∷ calls) t = turn_is_lem _ _ calls (turn_after_lem last s call t)
+  turn_is_lem last s (call ∷ calls) t =
+      turn_is_lem (last_after last call (engine.after s call).reply) (engine.after s call).state calls
+      (turn_after_lem last s call t)
 
   -- the flow picked last loses every tie, in every run
   loses_ties : (last : Last) (s : StateOf R) (calls : List Call) → engine.turn s.held ≡ turn_of last
       → LosesTies engine last s calls
   loses_ties last s [] t = tt
-  loses_ties last s (call ∷ calls) t = (here call, loses_ties _ _ calls (turn_after_lem last s call t))
+  loses_ties last s (call ∷ calls) t = (
+        here call,
+        loses_ties (last_after last call (engine.after s call).reply) (engine.after s call).state calls
+            (turn_after_lem last s call t),
+      )
     where
       here : (c : Call) → c ≡ pick → (f : ℕ) (rest : List ℕ) → last ≡ flow f
           → (engine.after s c).reply ≡ done (f ∷ rest) → AloneIn engine s.held f
