@@ -1,5 +1,6 @@
 -- `gateway::uplink_depth` meets its contract: each way through it is one case of its definition.
 use Rattle.std.proofs.Common.{rules}
+use mathlib.Core.Logic.{⊎_elim, inl, inr}
 use Rattle.gateway.proofs.Calls.{depth_unblocked, depth_unreplied, depth_refused, depth_done}
 use Rattle.gateway.proofs.uplink_depth.Goals as goal
 
@@ -14,7 +15,7 @@ returns-then-flow-flows c =
     record {
       exact = depth_refused c.args.flow c.args.block.now c.args.reply.now c.if-block-ne-BLOCK_WORDS.false c.if-reply-ne-DEPTH_WORDS.false _
           c.number.ensures
-          c.then-flow-flows.either;
+          (⊎_elim (λ over. inl over) (λ over. inr over.1) c.then-flow-flows.either);
     }
 
 pub returns : goal.returns
