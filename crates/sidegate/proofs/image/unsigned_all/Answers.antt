@@ -1,0 +1,20 @@
+use mathlib.Core.Path.{ap, ◌∙◌}
+use Prim.Native.Nat.{◌-◌}
+use lib.IntN.{pos}
+use lib.ListN.{get_or}
+use Rattle.below.specs.Made.{made_none, made_more, made_all}
+use Rattle.signs.specs.Machine.{back_is}
+use Rattle.sidegate.specs.Image.{word_of}
+use Rattle.sidegate.proofs.image.unsigned_all.Goals as goal
+
+pub loop-at-init : goal.loop-at-init
+loop-at-init c = made_none _ _ _
+
+pub loop-at-preserved : goal.loop-at-preserved
+loop-at-preserved c =
+    let tag = get_or c.args.tags.now c.loop-at.at (pos 0) in
+    made_more _ _ _ _ _ c.loop-at.invariant _ c.loop-at-test.true
+    (c.unsigned.ensures ∙ ap word_of (back_is tag c.tag-1.given))
+
+pub returns : goal.returns
+returns c = made_all _ _ _ _ _ c.loop-at.invariant c.loop-at-test.false
