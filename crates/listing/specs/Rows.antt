@@ -1,6 +1,8 @@
 -- Worked lines: an arrival, a pick, a leap, an Idle, a block of two entries and a refused block, computed.
 -- Assumes nothing.
 use Rattle.std.specs.Prelude.{◌≡◌, refl, List, [], ◌∷◌, ◌++◌, ℕ, replicate}
+use Rattle.std.proofs.Common.{ap, ◌∙◌, arith}
+use Rattle.lines.proofs.Digits.{decimal_more}
 use Rattle.lines.specs.Number.{digits_of, decimal}
 use Rattle.lines.specs.Output.{field_texts}
 use Rattle.entries.specs.Entry.{no_entry}
@@ -46,12 +48,27 @@ pub pick_row : entry_line 0 2 pick ≡ pick_text
 unfolding kind_of decimal digits_of field_texts
 pick_row = refl
 
+clock_tens : decimal 43200 ≡ 52 ∷ 51 ∷ 50 ∷ 48 ∷ 48 ∷ []
+unfolding decimal digits_of
+clock_tens = refl
+
+-- 432,000 in digits: those of a tenth of it, and a zero
+clock_digits : decimal 432000 ≡ 52 ∷ 51 ∷ 50 ∷ 48 ∷ 48 ∷ 48 ∷ []
+clock_digits = decimal_more 432000 (omega arith) ∙ ap (λ (ds : List ℕ). ds ++ 48 ∷ []) clock_tens
+
+-- a leap's line by the digits of its clock
+leap_at : (clock : ℕ) → entry_line 10 31 (record { kind = 3; flow = 0; length = 100; handle = 12; clock = clock })
+    ≡ 49 ∷ 48 ∷ 32 ∷ 51 ∷ 49 ∷ 32 ∷ 108 ∷ 101 ∷ 97 ∷ 112 ∷ 32 ∷ 48 ∷ 32 ∷ 49 ∷ 48 ∷ 48 ∷ 32 ∷ 49 ∷ 50 ∷
+    32 ∷ (decimal clock ++ []) ++ 10 ∷ []
+unfolding kind_of decimal digits_of field_texts
+leap_at clock = refl
+
 -- 10 31 leap 0 100 12 432000
 pub leap_row : entry_line 10 31 leap
     ≡ 49 ∷ 48 ∷ 32 ∷ 51 ∷ 49 ∷ 32 ∷ 108 ∷ 101 ∷ 97 ∷ 112 ∷ 32 ∷ 48 ∷ 32 ∷ 49 ∷ 48 ∷ 48 ∷ 32 ∷ 49 ∷ 50 ∷
     32 ∷ 52 ∷ 51 ∷ 50 ∷ 48 ∷ 48 ∷ 48 ∷ 10 ∷ []
-unfolding kind_of decimal digits_of field_texts
-leap_row = refl
+leap_row = leap_at 432000 ∙ ap (λ (ds : List ℕ). 49 ∷ 48 ∷ 32 ∷ 51 ∷ 49 ∷ 32 ∷ 108 ∷ 101 ∷ 97 ∷ 112 ∷ 32 ∷ 48 ∷ 32 ∷ 49 ∷
+    48 ∷ 48 ∷ 32 ∷ 49 ∷ 50 ∷ 32 ∷ (ds ++ []) ++ 10 ∷ []) clock_digits
 
 -- 0 3 idle 0 0 0 0
 pub idle_row : entry_line 0 3 idle
