@@ -10,7 +10,8 @@ use Rattle.uplink.specs.Calls as first_calls
 use Rattle.uplink.specs.Calls.{Call, opening, pick}
 use Rattle.shares.specs.Runs as first_runs
 use Rattle.shares.specs.Runs.{NoOpening, charge_told, charge_told_for, pick_in}
-use Rattle.shares.specs.Rule.{rule_gives, rule_form_kept, rule_in_time, rule_share, rule_overdraws, rule_both_wait}
+use Rattle.shares.specs.Rule.{rule_gives, rule_form_kept, rule_overdraws, rule_both_wait}
+use Rattle.shares.proofs.Rule.{rule_in_time, rule_share}
 use Rattle.shares.specs.Rule.{rule_front_waits, rule_front_leaves, rule_front_turns}
 use Rattle.backward.specs.Record.{waiting_of}
 use Rattle.backward.specs.State.{State}

@@ -13,14 +13,6 @@ use Rattle.uplink.specs.Calls.{Call, opening, arrival, pick, after_call, every_r
 use Rattle.shares.specs.Runs.{take_rule, Taken, value_in, Event, Stretch, of_packet, total, picked}
 use Rattle.shares.specs.Worked.{Worked, begin_of, stretch_of, bound_of, Shows, by_lean, rule_shows}
 use Rattle.shares.specs.Worked.{other_shows}
-use Rattle.shares.specs.Shares.{share}
-use Rattle.shares.specs.Rule.{rule_share}
-
--- demand 3 speaks of what document 01's rule makes of a worked run
-worked_holds : (w : Worked) {f W S cost width : ℕ} → Shows w (stretch_of w) f W S cost width
-    → 720 * picked (stretch_of w) ≤ bound_of w (stretch_of w) f 3
-worked_holds w {f} shows =
-    rule_share shows.begun.carried f shows.counts w.stretch shows.begun.plain shows.waits
 
 -- two flows of 500: flow 0 waits while it is picked once and flow 1 is picked once
 abbrev pub fair : Worked
@@ -42,10 +34,6 @@ fair_shows = rule_shows fair 0 200 100 1440 144000 refl refl refl refl
 pub fair_other : Shows fair (stretch_of fair) 1 200 100 1440 144000
 unfolding every_rule
 fair_other = rule_shows fair 1 200 100 1440 144000 refl refl refl refl
-
--- demand 3 speaks of it
-pub fair_holds : 720 * picked (stretch_of fair) ≤ bound_of fair (stretch_of fair) 0 3
-fair_holds = worked_holds fair fair_shows
 
 -- both front packets of `fair` have the tag 144,000
 tied_least : (g : ℕ) → g < 2 → tag_of (begin_of fair).held 1 ≤ tag_of (begin_of fair).held g
@@ -98,7 +86,7 @@ tight_shows = rule_shows tight 0 3993 1 720000 720000 refl refl refl refl
 
 -- 2Δ would be too few
 pub two_too_few : bound_of tight (stretch_of tight) 0 2 < 720 * picked (stretch_of tight)
-two_too_few = rw (tight_shows.all, tight_shows.own, tight_shows.cost_is_lem, tight_shows.width_is_lem) (lit< tt)
+two_too_few = rw (tight_shows.all, tight_shows.own, tight_shows.cost_is, tight_shows.width_is) (lit< tt)
 
 -- the same with shares 50 and 950, packets of 1,000 bytes and a header of 64
 abbrev pub headed : Worked
@@ -108,10 +96,6 @@ headed = overtaken (50 ∷ 950 ∷ []) 1000 64
 pub headed_shows : Shows headed (stretch_of headed) 0 4321 65 14400 936000
 unfolding every_rule
 headed_shows = rule_shows headed 0 4321 65 14400 936000 refl refl refl refl
-
--- demand 3 speaks of it
-pub headed_holds : 720 * picked (stretch_of headed) ≤ bound_of headed (stretch_of headed) 0 3
-headed_holds = worked_holds headed headed_shows
 
 -- the packets' own bytes in the place of their charges
 abbrev pub bytes_in : Outcome → ℕ
@@ -129,7 +113,7 @@ headed_bytes = by_lean headed headed_shows.begun
 -- and demand 3 would not hold
 pub bytes_break : total (bytes_for 0) (stretch_of headed) * flow_cost (flow_at (begin_of headed).held 0)
     + 3 * (begin_of headed).held.width < 720 * total bytes_in (stretch_of headed)
-bytes_break = rw (headed_bytes.0, headed_bytes.1, headed_shows.cost_is_lem, headed_shows.width_is_lem) (lit< tt)
+bytes_break = rw (headed_bytes.0, headed_bytes.1, headed_shows.cost_is, headed_shows.width_is) (lit< tt)
 
 -- the stand-in: with true it has made a pick, and from then on a pick only reports
 abbrev pub lazy_after : Bool → State → Call → Outcome
@@ -175,13 +159,4 @@ lazy_shows = other_shows lazy 0 900 100 1440 144000 refl refl refl lazy_from ref
 
 -- the stand-in breaks demand 3
 pub lazy_breaks : bound_of lazy lazy_stretch 0 3 < 720 * picked lazy_stretch
-lazy_breaks = rw (lazy_shows.all, lazy_shows.own, lazy_shows.cost_is_lem, lazy_shows.width_is_lem) (lit< tt)
-
--- so what it gives is no stretch of a run, whatever the tie rule
-pub lazy_no_stretch : Stretch (begin_of lazy) lazy_stretch → ⊥
-lazy_no_stretch run =
-    omega (
-      arith,
-      lazy_breaks,
-      share lazy_shows.begun.carried 0 lazy_shows.counts lazy_stretch run lazy_shows.waits,
-    )
+lazy_breaks = rw (lazy_shows.all, lazy_shows.own, lazy_shows.cost_is, lazy_shows.width_is) (lit< tt)

@@ -43,7 +43,7 @@ tight_ahead = nobody_ahead tight_shows.begun.carried 0 1 tight_shows.counts tigh
 
 -- Δ would be too few
 pub one_ahead : start_of (begin_of tight) 1 + 1 * (begin_of tight).held.width < start_of (begin_of tight) 0
-one_ahead = rw (tight_starts.0, tight_starts.1, tight_shows.width_is_lem) (lit< tt)
+one_ahead = rw (tight_starts.0, tight_starts.1, tight_shows.width_is) (lit< tt)
 
 -- the bound of demand 3 with so many Δ and flow f's front packet at the end counted as picked
 abbrev pub counted_of : Worked → ℕ → ℕ → ℕ
@@ -59,7 +59,7 @@ tight_share = (share_with_front tight_shows.begun.carried 0 tight_shows.counts (
 -- Δ would be too few
 pub one_share : counted_of tight 0 1
     < 720 * (picked (stretch_of tight) + waiting_charge (end_of (begin_of tight) (stretch_of tight)) 0)
-one_share = rw (tight_shows.all, tight_shows.own, tight_front, tight_shows.cost_is_lem, tight_shows.width_is_lem) (lit< tt)
+one_share = rw (tight_shows.all, tight_shows.own, tight_front, tight_shows.cost_is, tight_shows.width_is) (lit< tt)
 
 -- nobody overdraws: 3,992 × 721 are at most 1 × 720,000 + 3Δ
 pub tight_overdraws : figure_of 1 (begin_of tight) (stretch_of tight) ≤ bound_of tight (stretch_of tight) 0 3
@@ -69,7 +69,7 @@ tight_overdraws = rule_overdraws tight_shows.begun.carried tight.stretch tight_s
 -- 2Δ would be too few
 pub two_overdraws : bound_of tight (stretch_of tight) 0 2 < figure_of 1 (begin_of tight) (stretch_of tight)
 two_overdraws =
-    rw (tight_shows.own, tight_other.own, tight_shows.cost_is_lem, tight_other.cost_is_lem, tight_shows.width_is_lem) (lit< tt)
+    rw (tight_shows.own, tight_other.own, tight_shows.cost_is, tight_other.cost_is, tight_shows.width_is) (lit< tt)
 
 -- nor would Δ do with the front packet counted
 pub one_overdraws : counted_of tight 0 1 < figure_of 1 (begin_of tight) (stretch_of tight)
@@ -78,9 +78,9 @@ one_overdraws =
       tight_shows.own,
       tight_other.own,
       tight_front,
-      tight_shows.cost_is_lem,
-      tight_other.cost_is_lem,
-      tight_shows.width_is_lem,
+      tight_shows.cost_is,
+      tight_other.cost_is,
+      tight_shows.width_is,
     ) (lit< tt)
 
 -- both wait: the two figures differ by at most 6Δ
@@ -165,7 +165,7 @@ late_in_time w leaves =
     record {
       waiting = rule_front_waits c w.stretch plain 0 shows.counts leaves.waits shows.own;
       left = rule_front_leaves c w.stretch plain 0 shows.counts leaves.waits shows.own leaves.left;
-      two_late = rw (leaves.begin, leaves.end, shows.width_is_lem) (lit< tt);
+      two_late = rw (leaves.begin, leaves.end, shows.width_is) (lit< tt);
     }
 
 -- whichever call brought it to the front
@@ -222,7 +222,7 @@ quiet_other = by_lean quiet quiet_shows.begun (λ s run. figure_of 1 s run ≡ 1
 -- the figures differ by more than 6Δ
 pub quiet_differs : figure_of 1 (begin_of quiet) (stretch_of quiet) + 6 * (begin_of quiet).held.width
     < figure_of 0 (begin_of quiet) (stretch_of quiet)
-quiet_differs = rw (quiet_other, quiet_shows.own, quiet_shows.cost_is_lem, quiet_shows.width_is_lem) (lit< tt)
+quiet_differs = rw (quiet_other, quiet_shows.own, quiet_shows.cost_is, quiet_shows.width_is) (lit< tt)
 
 -- flow 1 is one of the table's
 quiet_counts : 1 < (begin_of quiet).held.flows
@@ -248,4 +248,4 @@ lazy_other = other_shows lazy 1 900 800 1440 144000 refl refl refl lazy_from ref
 pub lazy_differs : figure_of 0 (begin_of lazy) lazy_stretch + 6 * (begin_of lazy).held.width
     < figure_of 1 (begin_of lazy) lazy_stretch
 lazy_differs =
-    rw (lazy_shows.own, lazy_other.own, lazy_shows.cost_is_lem, lazy_other.cost_is_lem, lazy_shows.width_is_lem) (lit< tt)
+    rw (lazy_shows.own, lazy_other.own, lazy_shows.cost_is, lazy_other.cost_is, lazy_shows.width_is) (lit< tt)

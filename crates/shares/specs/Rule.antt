@@ -12,7 +12,7 @@ use Rattle.shares.specs.Runs.{take_rule, Taken, Gives, NoOpening, Event, Stretch
 use Rattle.shares.specs.Runs.{charge_for, picked, picked_of, picks_of, leaps_of, last_tag, waiting_charge, WaitsAtPicks}
 use Rattle.shares.specs.Runs.{figure_of, NeverIdle}
 use Rattle.shares.specs.Stretches.{carried_on}
-use Rattle.shares.specs.Shares.{form_kept, clock_in_time, share, clocks, last_tag_lem}
+use Rattle.shares.specs.Shares.{form_kept, clocks, last_tag_lem}
 use Rattle.shares.specs.Groups.{nobody_overdraws, both_wait_lem, front_waits, front_leaves, front_turns}
 
 -- document 01's pick is one of those that take a flow of smallest tag
@@ -46,17 +46,6 @@ module _ {s : State} (c : Carried s) where
   pub rule_form_kept : (call : Call) (flow : ℕ)
       → ((after_call s call).reply ≡ refused 1 flow → ⊥) × ((after_call s call).reply ≡ refused 2 flow → ⊥)
   rule_form_kept call = form_kept c call (after_call s call) (rule_gives s call)
-
-  -- no picked packet leaves the server clock above its tag
-  pub rule_in_time : (flow length handle tag leapt clock : ℕ)
-      → (pick_rule s).reply ≡ done (flow ∷ length ∷ handle ∷ tag ∷ leapt ∷ clock ∷ []) → clock ≤ tag
-  rule_in_time = clock_in_time c (pick_rule s) (rule_taken s)
-
-  -- demand 3, for a list of calls with no opening in it
-  pub rule_share : (f : ℕ) → f < s.held.flows
-      → (calls : List Call) → NoOpening calls → WaitsAtPicks f s (run_of s calls)
-      → 720 * picked (run_of s calls) ≤ picked_of f (run_of s calls) * flow_cost (flow_at s.held f) + 3 * s.held.width
-  rule_share f l calls plain = share c f l (run_of s calls) (rule_stretch s calls plain)
 
 -- document 02 b), for a list of calls with no opening in it
 module _ {s : State} (c : Carried s) (calls : List Call) (plain : NoOpening calls) where

@@ -29,10 +29,9 @@ pub refused_ten : {s : State} → Carried s → (o : Outcome) → Gives s pick o
 refused_ten {s} c o gives = call_refused s (carried_steady c) pick o tt gives refl
 
 -- No picked packet leaves the server clock above its tag.
-pub clock_in_time : {s : State} → Carried s → (o : Outcome) → Gives s pick o → (flow length handle tag leapt clock : ℕ)
+abbrev pub ClockInTime : State → Type 0
+ClockInTime s = (o : Outcome) → Gives s pick o → (flow length handle tag leapt clock : ℕ)
     → o.reply ≡ done (flow ∷ length ∷ handle ∷ tag ∷ leapt ∷ clock ∷ []) → clock ≤ tag
-clock_in_time {s} c o gives flow length handle tag leapt clock e =
-    rw e at (call_in_time s (carried_steady c) pick o tt gives)
 
 -- Demand 3, sharper, over every stretch at whose every pick flow f has a packet waiting. n is the charge of its front
 -- packet at the end, 0 where none waits: 720 × (W + n) ≤ (S + n) × cost + 2Δ, and so ≤ S × cost + 3Δ.
@@ -52,10 +51,10 @@ share_with_front {s} c f l stretch run waits = let S = carried_steady c in
 
 -- Demand 3: 720 × W ≤ S × cost + 3Δ, over every stretch at whose every pick flow f has a packet waiting.
 -- Of the other flows nothing is asked.
-pub share : {s : State} → Carried s → (f : ℕ) → f < s.held.flows
+abbrev pub Share : State → Type 0
+Share s = (f : ℕ) → f < s.held.flows
     → (stretch : List Event) → Stretch s stretch → WaitsAtPicks f s stretch
     → 720 * picked stretch ≤ picked_of f stretch * flow_cost (flow_at s.held f) + 3 * s.held.width
-share c f l stretch run waits = omega (arith, share_with_front c f l stretch run waits)
 
 -- The clocks, since the opening or the last Idle:
 -- clock = link time + Δ × number of leaps, and link time = 720 × the charges picked.

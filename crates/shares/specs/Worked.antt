@@ -126,8 +126,8 @@ pub record Shows (w : Worked) (run : List Event) (f W S cost width : ℕ) : Type
   pub waits : WaitsAtPicks f (begin_of w) run
   pub all : picked run ≡ W
   pub own : picked_of f run ≡ S
-  pub cost_is_lem : flow_cost (flow_at (begin_of w).held f) ≡ cost
-  pub width_is_lem : (begin_of w).held.width ≡ width
+  pub cost_is : flow_cost (flow_at (begin_of w).held f) ≡ cost
+  pub width_is : (begin_of w).held.width ≡ width
 
 -- flow f waits at every call, and with what came before these are all charges and its own: a test, in one pass
 abbrev counts_all : ℕ → State → List Event → ℕ → ℕ → ℕ → ℕ → Bool
@@ -165,8 +165,8 @@ shows_of w run f W S cost width begun e =
       waits = counts.0;
       all = omega (arith, counts.1);
       own = omega (arith, counts.2);
-      cost_is_lem = ap (λ (X : Table). X.cost f) begun.table ∙ eqb-true _ _ four.2;
-      width_is_lem = ap (λ (X : Table). X.width) begun.table ∙ eqb-true _ _ four.3;
+      cost_is = ap (λ (X : Table). X.cost f) begun.table ∙ eqb-true _ _ four.2;
+      width_is = ap (λ (X : Table). X.width) begun.table ∙ eqb-true _ _ four.3;
     }
 
 module _ (w : Worked) (f W S cost width : ℕ)
