@@ -1,11 +1,13 @@
-// Standard input, read whole: what every program here begins with.
+// An input read whole, as standard input is: what every program here begins with.
 #![tactic(auto)]
 
-ghost use Rattle.io.specs.Counts.{IsPrefixLen};
+ghost use Rattle.std.specs.Prelude.{◌≡◌, ◌<◌, length, take, false};
+ghost use Rattle.std.specs.Io.KnownBytes.{Consumes, IsAtEnd};
+ghost use Rattle.console.specs.Counts.{IsPrefixLen};
 
-use libc::STDIN_FILENO;
+use std::io::Read;
 
-// What was read of standard input: so many bytes, and whether a read failed.
+// What was read of an input: so many bytes, and whether a read failed.
 #[derive(Drop)]
 pub struct Input {
     pub count: usize,
@@ -13,17 +15,23 @@ pub struct Input {
 }
 
 // Reads until the buffer is full, the input ends or a read fails.
-pub fn read_input(input: &mut [u8]) -> Input
-    ensures { IsPrefixLen result.count input.new }
+pub fn read_input<R: Read>(reader: &mut R, input: &mut [u8]) -> Input
+    ensures within { IsPrefixLen result.count input.new }
+    ensures bytes { Consumes (R.remaining reader.old) (R.remaining reader.new) (take result.count input.new) }
+    ensures end { result.failed ≡ false → result.count < length input.new → IsAtEnd (R.remaining reader.new) }
 {
     let mut count = 0;
     while count < input.len() {
-        let got = libc::read(STDIN_FILENO, &mut input[count..]);
-        let more = io::count(got, &input[count..]);
+        let Ok(more) = reader.read(&mut input[count..]) else {
+            return Input {
+                count,
+                failed: true,
+            };
+        };
         if more == 0 {
             return Input {
                 count,
-                failed: got < 0,
+                failed: false,
             };
         }
         count += more;

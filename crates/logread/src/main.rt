@@ -5,16 +5,17 @@
 // it hands over the 512 bytes of each block in order, then a rest of fewer, and writes what it is given, once each.
 #![tactic(auto)]
 
-use libc::{STDERR_FILENO, STDOUT_FILENO};
+use std::io::Write;
 
-fn main() {
+fn main(rt: HostRuntime) {
+    let mut stdin = rt.stdin();
+    let mut stdout = rt.stdout();
     let mut bytes = [0u8; 512];
     let mut out = [0u8; 4160];
-    let mut place: u64 = 0;
-    while place < 18446744073709551615 {
-        let read = console::read_input(&mut bytes);
+    for place in 0..u64::MAX {
+        let read = console::read_input(&mut stdin, &mut bytes);
         if read.failed {
-            io::write_all(STDERR_FILENO, b"logread: standard input failed\n");
+            let _ = eprintln!(rt; "logread: standard input failed");
             return;
         }
         let count = read.count;
@@ -23,13 +24,12 @@ fn main() {
         }
         let reading = card::read_block(&bytes[..count]);
         let written = listing::write_listing(place, reading, &mut out);
-        if !io::write_all(STDOUT_FILENO, &out[..written]) {
-            io::write_all(STDERR_FILENO, b"logread: standard output failed\n");
+        if stdout.write_all(&out[..written]).is_err() {
+            let _ = eprintln!(rt; "logread: standard output failed");
             return;
         }
         if count < 512 {
             return;
         }
-        place += 1;
     }
 }

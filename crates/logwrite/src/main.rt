@@ -4,15 +4,14 @@
 // counts the pieces that it reads, and the count stays below 2^64 - 1, which is more than any input has.
 // What no proof says, since no contract can speak of what is read or written, is that it hands over each line in order
 // and once, that an opening that is done ends the log so far, and that an entry goes into the block, and a block to
-// standard output, as `feed` of `cardlog` has it: that this is the log is `fed_all` there. A line of more than 34 bytes is
-// bad whatever it says (`long_bad` of `lines`), so of a longer line the first 64 bytes are kept and say the same.
+// standard output, as `feed` of `cardlog` has it: that this is the log is `fed_all` there. A line of more than 34 bytes
+// is bad whatever it says (`long_bad` of `lines`), so of a longer line the first 64 bytes are kept and say the same.
 #![tactic(auto)]
 
 ghost use Rattle.std.specs.Prelude.{◌≤◌, length};
 
 use card::Block;
 use cardlog::Noted;
-use libc::{STDERR_FILENO, STDOUT_FILENO};
 use lines::{Line, Script};
 use reply::OpeningReply;
 use uplink::Record;
@@ -38,17 +37,17 @@ struct Fed {
 const NO_HEADER: u32 = 0;
 
 // Writes a block that has an entry. Whether that was done.
-fn save(block: Block) -> bool {
+fn save(rt: &(impl Print + Eprint), block: Block) -> bool {
     if block.count == 0 {
         return true;
     }
     let mut bytes = [0u8; 512];
     if card::write_block(block, &mut bytes) != 0 {
-        io::write_all(STDERR_FILENO, b"logwrite: a block was refused\n");
+        let _ = eprintln!(rt; "logwrite: a block was refused");
         return false;
     }
-    if !io::write_all(STDOUT_FILENO, &bytes) {
-        io::write_all(STDERR_FILENO, b"logwrite: standard output failed\n");
+    if rt.write_all(&bytes).is_err() {
+        let _ = eprintln!(rt; "logwrite: standard output failed");
         return false;
     }
     true
@@ -56,7 +55,7 @@ fn save(block: Block) -> bool {
 
 impl Logger {
     // What a call logs goes into the block; a block that is full is written first, and the next one begun.
-    fn note(self, noted: Noted) -> Logger {
+    fn note(self, rt: &(impl Print + Eprint), noted: Noted) -> Logger {
         let Noted::Entry(entry) = noted else {
             return self;
         };
@@ -70,9 +69,9 @@ impl Logger {
                 going: true,
             };
         }
-        let saved = save(before);
+        let saved = save(rt, before);
         if before.number == 4294967295 {
-            io::write_all(STDERR_FILENO, b"logwrite: no block has the next number\n");
+            let _ = eprintln!(rt; "logwrite: no block has the next number");
             return Logger {
                 script,
                 block: before,
@@ -89,7 +88,7 @@ impl Logger {
     }
 
     // The rows so far are opened, and stay. Where that is done the log so far ends, and another begins.
-    fn open(self, lengths: &mut [u16], handles: &mut [u32]) -> Logger {
+    fn open(self, rt: &(impl Print + Eprint), lengths: &mut [u16], handles: &mut [u32]) -> Logger {
         let mut script = self.script;
         let shares = script.shares;
         let largest = script.largest;
@@ -107,7 +106,7 @@ impl Logger {
         let ended = self.block;
         match reply {
             OpeningReply::Done => {
-                let going = save(ended);
+                let going = save(rt, ended);
                 let block = cardlog::begun(0);
                 Logger {
                     script,
@@ -124,7 +123,7 @@ impl Logger {
     }
 
     // The record after a call, and what the call logs.
-    fn after(self, held: Record, noted: Noted) -> Logger {
+    fn after(self, rt: &(impl Print + Eprint), held: Record, noted: Noted) -> Logger {
         let mut script = self.script;
         script.held = held;
         let block = self.block;
@@ -133,32 +132,31 @@ impl Logger {
             block,
             going: true,
         };
-        next.note(noted)
+        next.note(rt, noted)
     }
 
     fn arrive(
         self,
+        rt: &(impl Print + Eprint),
         flow: u32,
         bytes: u32,
         handle: u32,
         lengths: &mut [u16],
         handles: &mut [u32],
     ) -> Logger {
-        let script = self.script;
-        let held = script.held;
+        let held = self.script.held;
         let logged = cardlog::arrival(held, flow, bytes, handle, lengths, handles);
         let next = logged.next;
         let noted = logged.noted;
-        self.after(next, noted)
+        self.after(rt, next, noted)
     }
 
-    fn pick(self, lengths: &mut [u16], handles: &mut [u32]) -> Logger {
-        let script = self.script;
-        let held = script.held;
+    fn pick(self, rt: &(impl Print + Eprint), lengths: &mut [u16], handles: &mut [u32]) -> Logger {
+        let held = self.script.held;
         let logged = cardlog::pick(held, lengths, handles);
         let next = logged.next;
         let noted = logged.noted;
-        self.after(next, noted)
+        self.after(rt, next, noted)
     }
 
     // A row of the table, or a bad line: no call is made, and what the script program would write is let go.
@@ -176,19 +174,25 @@ impl Logger {
     }
 
     // One line of a script; none where the log does not go on.
-    fn step(self, line: &[u8], lengths: &mut [u16], handles: &mut [u32]) -> Logger {
+    fn step(
+        self,
+        rt: &(impl Print + Eprint),
+        line: &[u8],
+        lengths: &mut [u16],
+        handles: &mut [u32],
+    ) -> Logger {
         if !self.going {
             return self;
         }
         let call = lines::read(line);
         match call {
-            Line::Opening => self.open(lengths, handles),
+            Line::Opening => self.open(rt, lengths, handles),
             Line::Arrival {
                 flow,
                 length,
                 handle,
-            } => self.arrive(flow, length, handle, lengths, handles),
-            Line::Pick => self.pick(lengths, handles),
+            } => self.arrive(rt, flow, length, handle, lengths, handles),
+            Line::Pick => self.pick(rt, lengths, handles),
             Line::Row {
                 share: _,
                 largest: _,
@@ -212,6 +216,7 @@ fn keep(line: &mut [u8], kept: usize, more: &[u8]) -> usize
 
 // All lines that end in this piece of the input; what stands behind the last of them is kept in `line`.
 fn feed(
+    rt: &(impl Print + Eprint),
     before: Logger,
     piece: &[u8],
     line: &mut [u8],
@@ -231,7 +236,7 @@ fn feed(
         if piece.len() <= end {
             return Fed { logger, kept };
         }
-        logger = logger.step(&line[..kept], lengths, handles);
+        logger = logger.step(rt, &line[..kept], lengths, handles);
         kept = 0;
         at = end + 1;
     }
@@ -239,15 +244,22 @@ fn feed(
 }
 
 // The last line, which the end of the input ends, and the block that is not full.
-fn finish(logger: Logger, line: &[u8], lengths: &mut [u16], handles: &mut [u32]) {
-    let last = logger.step(line, lengths, handles);
+fn finish(
+    rt: &(impl Print + Eprint),
+    logger: Logger,
+    line: &[u8],
+    lengths: &mut [u16],
+    handles: &mut [u32],
+) {
+    let last = logger.step(rt, line, lengths, handles);
     if last.going {
         let block = last.block;
-        save(block);
+        save(rt, block);
     }
 }
 
-fn main() {
+fn main(rt: HostRuntime) {
+    let mut stdin = rt.stdin();
     let mut lengths = [0u16; 4096];
     let mut handles = [0u32; 4096];
     let mut logger = Logger {
@@ -257,16 +269,16 @@ fn main() {
     };
     let mut line = [0u8; 64];
     let mut kept = 0;
-    let mut piece = io::large_buffer();
-    let mut pieces: u64 = 0;
-    while pieces < 18446744073709551615 {
-        let read = console::read_input(&mut piece);
+    let mut piece = [0u8; 65536];
+    for _ in 0..u64::MAX {
+        let read = console::read_input(&mut stdin, &mut piece);
         if read.failed {
-            io::write_all(STDERR_FILENO, b"logwrite: standard input failed\n");
+            let _ = eprintln!(rt; "logwrite: standard input failed");
             return;
         }
         let count = read.count;
         let fed = feed(
+            &rt,
             logger,
             &piece[..count],
             &mut line,
@@ -280,9 +292,8 @@ fn main() {
             return;
         }
         if count < 65536 {
-            finish(logger, &line[..kept], &mut lengths, &mut handles);
+            finish(&rt, logger, &line[..kept], &mut lengths, &mut handles);
             return;
         }
-        pieces += 1;
     }
 }

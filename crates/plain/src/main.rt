@@ -1,14 +1,15 @@
 // The plain engine's script program: it runs a script of calls as the script program does (document 01, "The script
 // program"), by leap backward (document 02 c), and writes the same lines with the plain engine's own tags and clock.
-// What a line says, the calls and the output lines are proved in `lines` and `backward`. This file is proved safe and to
-// end; that it hands each line over in order, and writes what it is given, is for the reader to see.
+// What a line says, the calls and the output lines are proved in `lines` and `backward`. This file is proved safe and
+// to end; that it hands each line over in order, and writes what it is given, is for the reader to see.
 #![tactic(auto)]
 
 ghost use Rattle.std.specs.Prelude.{◌≤◌, length};
 
 use backward::Record;
-use libc::{STDERR_FILENO, STDOUT_FILENO};
 use lines::{Line, Script};
+use std::io;
+use std::io::Write;
 
 // What a script has done so far, but for the two memories.
 #[derive(Drop)]
@@ -140,8 +141,13 @@ impl Plain {
     }
 }
 
-// All lines of the input, in order, each with its output line. Whether standard output took every line.
-fn run(input: &[u8], lengths: &mut [u16], handles: &mut [u32]) -> bool {
+// All lines of the input, in order, each with its output line. An error where the writer does not take every line.
+fn run(
+    writer: &mut impl Write,
+    input: &[u8],
+    lengths: &mut [u16],
+    handles: &mut [u32],
+) -> io::Result<()> {
     let mut plain = Plain {
         held: Record::blank(),
         table: lines::start(),
@@ -152,26 +158,25 @@ fn run(input: &[u8], lengths: &mut [u16], handles: &mut [u32]) -> bool {
         let end = lines::line_end(input, at);
         let stepped = plain.step(&input[at..end], lengths, handles, &mut out);
         let written = stepped.written;
-        if !io::write_all(STDOUT_FILENO, &out[..written]) {
-            return false;
-        }
+        writer.write_all(&out[..written])?;
         plain = stepped.next;
         at = end + 1;
     }
-    true
+    Ok(())
 }
 
-fn main() {
-    let mut input = io::large_buffer();
-    let read = console::read_input(&mut input);
+fn main(rt: HostRuntime) {
+    let mut input = [0u8; 65536];
+    let read = console::read_input(&mut rt.stdin(), &mut input);
     if read.failed {
-        io::write_all(STDERR_FILENO, b"plain: standard input failed\n");
+        let _ = eprintln!(rt; "plain: standard input failed");
         return;
     }
     let count = read.count;
     let mut lengths = [0u16; 4096];
     let mut handles = [0u32; 4096];
-    if !run(&input[..count], &mut lengths, &mut handles) {
-        io::write_all(STDERR_FILENO, b"plain: standard output failed\n");
+    let mut stdout = rt.stdout();
+    if run(&mut stdout, &input[..count], &mut lengths, &mut handles).is_err() {
+        let _ = eprintln!(rt; "plain: standard output failed");
     }
 }

@@ -8,10 +8,17 @@
 
 ghost use Rattle.std.specs.Prelude.{◌≤◌, length};
 
-use libc::{STDERR_FILENO, STDOUT_FILENO};
+use std::io;
+use std::io::Write;
 
-// All lines of the input, a buffer of output at a time. Whether standard output took every buffer.
-fn run(input: &[u8], lengths: &mut [u16], handles: &mut [u32], out: &mut [u8]) -> bool
+// All lines of the input, a buffer of output at a time. An error where the writer does not take every buffer.
+fn run(
+    writer: &mut impl Write,
+    input: &[u8],
+    lengths: &mut [u16],
+    handles: &mut [u32],
+    out: &mut [u8],
+) -> io::Result<()>
     requires { 160 ≤ length out.old }
 {
     let mut script = lines::start();
@@ -19,27 +26,33 @@ fn run(input: &[u8], lengths: &mut [u16], handles: &mut [u32], out: &mut [u8]) -
     while at < input.len() {
         let ran = script.run(input, at, lengths, handles, out);
         let written = ran.written;
-        if !io::write_all(STDOUT_FILENO, &out[..written]) {
-            return false;
-        }
+        writer.write_all(&out[..written])?;
         script = ran.next;
         at = ran.at;
     }
-    true
+    Ok(())
 }
 
-fn main() {
-    let mut input = io::large_buffer();
-    let read = console::read_input(&mut input);
+fn main(rt: HostRuntime) {
+    let mut input = [0u8; 65536];
+    let read = console::read_input(&mut rt.stdin(), &mut input);
     if read.failed {
-        io::write_all(STDERR_FILENO, b"script: standard input failed\n");
+        let _ = eprintln!(rt; "script: standard input failed");
         return;
     }
     let count = read.count;
     let mut lengths = [0u16; 4096];
     let mut handles = [0u32; 4096];
-    let mut out = io::large_buffer();
-    if !run(&input[..count], &mut lengths, &mut handles, &mut out) {
-        io::write_all(STDERR_FILENO, b"script: standard output failed\n");
+    let mut out = [0u8; 65536];
+    let mut stdout = rt.stdout();
+    let ran = run(
+        &mut stdout,
+        &input[..count],
+        &mut lengths,
+        &mut handles,
+        &mut out,
+    );
+    if ran.is_err() {
+        let _ = eprintln!(rt; "script: standard output failed");
     }
 }

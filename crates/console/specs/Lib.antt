@@ -1,0 +1,2 @@
+-- `Counts`: how many bytes of a buffer were read.
+pub mod Counts

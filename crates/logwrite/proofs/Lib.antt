@@ -1,2 +1,0 @@
--- `Keeping`: the bytes of a line that are kept are within its buffer.
-pub mod Keeping

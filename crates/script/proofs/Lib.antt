@@ -1,2 +1,0 @@
--- `Running`: what holds at each buffer of output.
-pub mod Running
