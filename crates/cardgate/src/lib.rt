@@ -27,8 +27,7 @@ const REFUSED_FIELD: u32 = 12;
 const REFUSED_CONTENT: u32 = 101;
 
 // Writes a content into the 512 bytes of a block.
-#[unsafe(no_mangle)]
-pub extern "C" fn card_write(content: &[u64], block: &mut [u8]) -> u32
+pub fn card_write(content: &[u64], block: &mut [u8]) -> u32
     ensures exact { written result block.new ≡ card_write content.now block.old }
 {
     if content.len() != CONTENT_WORDS {
@@ -45,8 +44,7 @@ pub extern "C" fn card_write(content: &[u64], block: &mut [u8]) -> u32
 }
 
 // Reads a block's 512 bytes into the words of its content.
-#[unsafe(no_mangle)]
-pub extern "C" fn card_read(block: &[u8], content: &mut [u64]) -> u32
+pub fn card_read(block: &[u8], content: &mut [u64]) -> u32
     ensures exact { told result content.new ≡ card_read block.now content.old }
 {
     if content.len() != CONTENT_WORDS {

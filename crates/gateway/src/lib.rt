@@ -65,8 +65,7 @@ pub fn write_packet(
 }
 
 // Opens a table: its flows' shares and largest packets, and the link header of every packet.
-#[unsafe(no_mangle)]
-pub extern "C" fn uplink_opening(
+pub fn uplink_opening(
     shares: &[u32],
     largest: &[u32],
     header: u32,
@@ -96,8 +95,7 @@ pub extern "C" fn uplink_opening(
 }
 
 // A packet comes to a flow.
-#[unsafe(no_mangle)]
-pub extern "C" fn uplink_arrival(
+pub fn uplink_arrival(
     flow: u32,
     length: u32,
     handle: u32,
@@ -142,8 +140,7 @@ fn flow_of(answer: PickReply) -> u32
 }
 
 // The packet to send next.
-#[unsafe(no_mangle)]
-pub extern "C" fn uplink_pick(
+pub fn uplink_pick(
     block: &mut [u64],
     lengths: &mut [u16],
     handles: &mut [u32],
@@ -199,8 +196,7 @@ fn write_depth(block: &[u64], flow: u32, reply: &mut [u64])
 }
 
 // How many packets wait in a flow. The form of the record is not tested.
-#[unsafe(no_mangle)]
-pub extern "C" fn uplink_depth(flow: u32, block: &[u64], reply: &mut [u64]) -> u32
+pub fn uplink_depth(flow: u32, block: &[u64], reply: &mut [u64]) -> u32
     ensures exact { answered result (lending block.now [] [] reply.new)
         ≡ gateway_depth flow (lending block.now [] [] reply.old) }
 {

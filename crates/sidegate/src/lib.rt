@@ -78,8 +78,7 @@ fn pick_answer(picked: PickReply, reply: &mut [u64]) -> u32
 }
 
 // Opens a table: its flows' shares and largest packets, and the link header of every packet.
-#[unsafe(no_mangle)]
-pub extern "C" fn backward_opening(
+pub fn backward_opening(
     shares: &[u32],
     largest: &[u32],
     header: u32,
@@ -102,8 +101,7 @@ pub extern "C" fn backward_opening(
 }
 
 // A packet comes to a flow.
-#[unsafe(no_mangle)]
-pub extern "C" fn backward_arrival(
+pub fn backward_arrival(
     flow: u32,
     length: u32,
     handle: u32,
@@ -127,8 +125,7 @@ pub extern "C" fn backward_arrival(
 }
 
 // The packet to send next.
-#[unsafe(no_mangle)]
-pub extern "C" fn backward_pick(
+pub fn backward_pick(
     block: &mut [u64],
     lengths: &mut [u16],
     handles: &mut [u32],
