@@ -43,6 +43,9 @@ module _ (flows f n largest waiting : ℕ) where
       unfolding join_reply
       taken h = rw (lt-ltb f flows known, ← same, inside n most fits, ← held, lt-ltb wait 64 h)
 
+-- what each way through refusals 7, 8 and 9 gives
+pub ruleset joining = (no_flow_lem, bad_length, full, taken)
+
 -- a place set in both memories
 pub stored : (lengths handles : List ℕ) (at place bytes handle : ℕ) → at ≡ place
     → (set lengths at bytes ≡ set lengths place bytes) × (set handles at handle ≡ set handles place handle)

@@ -150,3 +150,6 @@ module _ (flows header width : ℕ) (q : Queues) (lengths : List ℕ) where
         → ((leb sum 1000 && eqb most width) && d) ≡ queue_side flows header width q lengths
     as_the_rest b c d sum most e h k t s m r =
         sym (tested ∙ rw (sized, ← e, not-false b h, ← k, not-false c t, ← s, ← m, ← r))
+
+-- what each way through the test of the queue's side gives
+pub ruleset side_ways = (no_flows, many_flows, long_header, ranges_bad, queued_bad, as_the_rest)

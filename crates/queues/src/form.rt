@@ -102,6 +102,7 @@ fn rest_ok<'a>(
 }
 
 // The queue's side of a record is well formed, with this memory of lengths. Any numbers may be handed in.
+#[tactic(auto, using(crate::proofs::Testing::side_ways))]
 pub fn are_formed<'a>(
     table: &[u32; 1000],
     flows: u32,

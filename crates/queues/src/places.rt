@@ -66,6 +66,7 @@ pub fn go_on(first: &mut [u16; 64], flow: u32) -> u16
 }
 
 // Refusals 7, 8 and 9.
+#[tactic(auto, using(crate::proofs::Placing::joining))]
 pub fn arrival_reply<'a>(
     flows: u32,
     flow: u32,
