@@ -18,3 +18,8 @@ need() {
         command -v "$program" > /dev/null || { echo "$1 needs $program, which is not here" >&2; exit 1; }
     done
 }
+
+# is_older FILE: whether it is missing, or a crate has a file that is newer, but for what rt made
+is_older() {
+    [ ! -f "$1" ] || [ -n "$(find crates -path '*/out' -prune -o -type f -newer "$1" -print -quit)" ]
+}

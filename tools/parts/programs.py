@@ -1,4 +1,4 @@
-"""What the Python tools share in running the programs that `rt check` builds."""
+"""What the Python tools share in running the programs that `tools/programs` builds."""
 
 import os
 import pathlib
@@ -16,7 +16,7 @@ Pick = namedtuple("Pick", "flow length handle tag leapt clock")
 
 
 def built(name):
-    """Where `rt check` puts the program of this name."""
+    """Where `tools/programs` puts the program of this name."""
     return ROOT / "target" / "bin" / name
 
 
@@ -24,7 +24,7 @@ def checked_program(parser, path, name):
     """The path in full; ends the tool where no program is there, or the program is left out and not built."""
     program = path or built(name)
     if not program.is_file() or not os.access(program, os.X_OK):
-        parser.error(f"there is no program {program}; `rt check {name}` builds target/bin/{name}")
+        parser.error(f"there is no program {program}; `tools/programs` builds target/bin/{name}")
     return program.resolve()
 
 
@@ -32,7 +32,7 @@ def options_with_engines(parser):
     """The parser's options, and with them `script` and `plain`, the programs of the two engines."""
     for name, engine in ("script", "first"), ("plain", "plain"):
         parser.add_argument(f"--{name}", metavar="PATH", type=pathlib.Path,
-                            help=f"the {engine} engine's program (default: target/bin/{name}, which `rt check {name}` "
+                            help=f"the {engine} engine's program (default: target/bin/{name}, which `tools/programs` "
                                  "builds)")
     options = parser.parse_args()
     options.script = checked_program(parser, options.script, "script")

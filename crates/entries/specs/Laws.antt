@@ -1,6 +1,6 @@
 -- Entries and their sixteen bytes undo each other: what callers use.
 -- Assumes nothing.
-use Rattle.std.specs.Prelude.{◌≡◌, refl, ℕ, ◌+◌, length, drop}
+use Rattle.std.specs.Prelude.{◌≡◌, refl, ℕ, length, drop}
 use Rattle.std.proofs.Common.{sym, ap₂, ◌∙◌, arith, length-drop, drop-cons, take_all}
 use Rattle.std.proofs.Math.Path.{ap}
 use mathlib.Core.List.{List, ◌∷◌, ◌++◌}

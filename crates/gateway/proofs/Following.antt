@@ -18,7 +18,7 @@ use Rattle.tags.specs.declared.LinkTicks.{LinkTicks}
 use Rattle.tags.specs.declared.ServerTicks.{ServerTicks}
 use Rattle.uplink.specs.Flow.{Flow, joined_flow, served_flow}
 use Rattle.uplink.specs.Record.{flow_at, tag_of, with, put, rested, Rows}
-use Rattle.reply.specs.State.{state, outcome, demand, unless_refused}
+use Rattle.reply.specs.State.{outcome, demand, unless_refused}
 use Rattle.uplink.specs.State.{State, Outcome}
 use Rattle.uplink.specs.Form.{formed, checked}
 use Rattle.uplink.specs.Formed.{formed_out}

@@ -1,7 +1,7 @@
 -- The queues of all 64 flows, and the only file that knows how they are laid out: a queue got, a queue put, and the
 -- laws of getting and putting. Every engine's record holds `Queues`, and its rules speak of `queue_at` and `put_queue`.
 -- Assumes nothing.
-use Rattle.std.specs.Prelude.{◌≡◌, ℕ, ◌<◌, List, length, set, replicate, ◌≢◌, slice_index, slice_set}
+use Rattle.std.specs.Prelude.{◌≡◌, ℕ, ◌<◌, List, length, replicate, ◌≢◌, slice_index, slice_set}
 use Rattle.std.proofs.Common.{◌∙◌, arith, length-set, get_or-set_same, get_or-set_other}
 use Rattle.std.proofs.lemmas.List.{set-get_or}
 use Rattle.below.specs.Below.{sum_below, most_below}

@@ -1,7 +1,7 @@
 -- The numbers of documents 01 and 02 on both sides: each bullet of the form, each refusal, and the order of refusals. The
 -- numbers are the documents' own, written out, so that a limit cannot be moved by a definition and the code together.
 -- Assumes nothing.
-use Rattle.std.specs.Prelude.{◌≡◌, refl, true, false, List, [], ◌∷◌, ◌++◌, ℕ, suc, ◌+◌, ◌-◌, ◌^◌, length, replicate}
+use Rattle.std.specs.Prelude.{true, false, List, [], ◌∷◌, ◌++◌, ℕ, suc, ◌+◌, ◌-◌, ◌^◌, length, replicate}
 use Rattle.reply.specs.Reply.{Reply, idle, done, refused, packet}
 use Rattle.queues.specs.Queue.{queue_of}
 use Rattle.uplink.specs.declared.Record.{Record}
@@ -10,7 +10,6 @@ use Rattle.uplink.specs.Record.{blank, put, turned, record_of}
 use Rattle.reply.specs.State.{state}
 use Rattle.uplink.specs.State.{State}
 use Rattle.uplink.specs.Calls.{Call, opening, arrival, pick}
-use Rattle.rows.specs.Script.{run, replies}
 use Rattle.rows.specs.Examples.{pair}
 use Rattle.rows.specs.Row.{record_is_blank, record_stays, memories_stay, memories_are_blank, clock_is, width_is, header_is}
 use Rattle.rows.specs.Row.{Row, row}

@@ -1,9 +1,9 @@
 -- P1 to P12 of document 01, "Examples on both sides": the rows of one list, with one claim over them.
 -- Assumes nothing.
-use Rattle.std.specs.Prelude.{◌≡◌, refl, true, false, List, [], ◌∷◌, ◌++◌}
+use Rattle.std.specs.Prelude.{true, false, List, [], ◌∷◌, ◌++◌}
 use Rattle.reply.specs.Reply.{Reply, idle, done, refused, packet}
 use Rattle.uplink.specs.Calls.{opening, arrival, start}
-use Rattle.rows.specs.Script.{run, replies}
+use Rattle.rows.specs.Script.{run}
 use Rattle.rows.specs.Examples.{pair, opened, one_each, four_alone, picks}
 use Rattle.rows.specs.Examples.{both_wait, flow1_waits, none_waits, before_leap, after_leap}
 use Rattle.rows.specs.Row.{clock_is, tag_is, width_is, cost_is, leap_is, Row, row}

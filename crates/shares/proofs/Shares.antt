@@ -1,7 +1,6 @@
 -- Demand 3 and the clock, proved of every run from an accepted opening (`Carried`), whichever flow of smallest tag a
 -- pick takes (`Gives`). What they say is in specs/Shares.
 -- Assumes nothing.
-use Rattle.std.specs.Prelude.{refl}
 use Rattle.std.proofs.Common.{arith}
 use Rattle.uplink.specs.State.{State}
 use Rattle.uplink.specs.Calls.{pick}

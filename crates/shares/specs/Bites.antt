@@ -10,7 +10,7 @@ use Rattle.uplink.specs.Record.{flow_at, tag_of}
 use Rattle.uplink.specs.State.{State, Outcome}
 use Rattle.uplink.specs.Pick.{pick_rule}
 use Rattle.uplink.specs.Calls.{Call, opening, arrival, pick, after_call, every_rule}
-use Rattle.shares.specs.Runs.{take_rule, Taken, value_in, Event, Stretch, of_packet, total, picked}
+use Rattle.shares.specs.Runs.{take_rule, Taken, value_in, Event, of_packet, total, picked}
 use Rattle.shares.specs.Worked.{Worked, begin_of, stretch_of, bound_of, Shows, by_lean, rule_shows}
 use Rattle.shares.specs.Worked.{other_shows}
 

@@ -1,9 +1,8 @@
 -- Document 01's pick takes a flow of smallest tag, so what holds whatever the tie rule holds of it.
 -- Assumes nothing.
 use Rattle.std.specs.Prelude.{◌≡◌, refl, List, [], ◌∷◌, ℕ, ◌+◌, ◌*◌, ◌/◌, ◌≤◌, ◌<◌}
-use Rattle.reply.specs.Reply.{done, refused}
-use Rattle.uplink.specs.Flow.{flow_cost}
-use Rattle.uplink.specs.Record.{flow_at, tag_of, waiting_of}
+use Rattle.reply.specs.Reply.{refused}
+use Rattle.uplink.specs.Record.{tag_of, waiting_of}
 use Rattle.uplink.specs.State.{State}
 use Rattle.uplink.specs.Pick.{lead_of, pick_rule, choose_rule}
 use Rattle.uplink.specs.Leading.{lead_smallest}

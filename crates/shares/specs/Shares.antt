@@ -13,7 +13,7 @@ use Rattle.uplink.specs.Calls.{Call, pick}
 use Rattle.shares.specs.Runs.{something_waits, Gives, Event, Stretch, end_of, Carried, Restarted, picked}
 use Rattle.shares.specs.Runs.{picked_of, leaps_of, waiting_charge, last_tag, WaitsAtPicks, NeverIdle}
 use Rattle.shares.specs.Bridge.{table_of}
-use Rattle.shares.specs.Calls.{any_late, call_refused, call_in_time}
+use Rattle.shares.specs.Calls.{any_late, call_refused}
 use Rattle.shares.specs.Stretches.{carried_steady, share_stretch, fits_stretch, restarted_zeroed, clocks_stretch}
 use Rattle.shares.specs.Stretches.{last_stretch}
 

@@ -138,10 +138,10 @@ module _ {R : Type 0} (engine : Engine R) (B : ByTurn engine) where
       → LosesTies engine last s calls
   loses_ties last s [] t = tt
   loses_ties last s (call ∷ calls) t = (
-        here call,
-        loses_ties (last_after last call (engine.after s call).reply) (engine.after s call).state calls
-            (turn_after_lem last s call t),
-      )
+    here call,
+    loses_ties (last_after last call (engine.after s call).reply) (engine.after s call).state calls
+        (turn_after_lem last s call t),
+  )
     where
       here : (c : Call) → c ≡ pick → (f : ℕ) (rest : List ℕ) → last ≡ flow f
           → (engine.after s c).reply ≡ done (f ∷ rest) → AloneIn engine s.held f

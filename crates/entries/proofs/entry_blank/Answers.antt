@@ -1,7 +1,6 @@
 -- `entries::entry_blank` meets its contract: one law for each way through it.
 use Rattle.std.proofs.Common.{rules}
 use Rattle.entries.proofs.Entering.{blank_kind, blank_rest}
-use Rattle.entries.proofs.rest_blank.Reads as rest-blank-reads
 use Rattle.entries.proofs.entry_blank.Goals as goal
 
 pub returns-then-entry-gt0 : goal.returns-then-entry-gt0

@@ -1,9 +1,6 @@
 -- `entries::entry_legal` meets its contract: one law for each kind.
 use Rattle.std.proofs.Common.{rules}
 use Rattle.entries.proofs.Entering.{legal_arrival, legal_pick, legal_leap, legal_idle, legal_other}
-use Rattle.entries.proofs.kind_of.Reads as kind-of-reads
-use Rattle.entries.proofs.packet_legal.Reads as packet-legal-reads
-use Rattle.entries.proofs.rest_blank.Reads as rest-blank-reads
 use Rattle.entries.proofs.entry_legal.Goals as goal
 
 pub returns-in-Arrival : goal.returns-in-Arrival

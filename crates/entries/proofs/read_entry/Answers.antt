@@ -5,7 +5,6 @@ use Prim.Native.Nat.{ℕ, ◌^◌}
 use native.Mathlib.Omega.{arith}
 use Rattle.fields.specs.Laws.{part_length}
 use Rattle.entries.proofs.Entering.{entry_told}
-use Rattle.fields.proofs.read_number.Reads as read-number-reads
 use Rattle.entries.proofs.read_entry.Goals as goal
 
 pub overflow_cast-length : goal.overflow_cast-length

@@ -3,7 +3,6 @@ use Rattle.std.proofs.Common.{rules}
 use native.Mathlib.Omega.{arith}
 use lib.ListN.{length-set}
 use Rattle.entries.proofs.Entering.{entry_written}
-use Rattle.fields.proofs.write_number.Reads as write-number-reads
 use Rattle.entries.proofs.write_entry.Goals as goal
 
 pub slice_bounds-write_number-end : goal.slice_bounds-write_number-end

@@ -1,6 +1,5 @@
 -- `fields::read_number` meets its contract. The loop's invariant: the number is that of the bytes from `at` on, and
 -- fits as many bytes. The measure is `at`.
-use Prim.Native.Nat.{◌-◌}
 use Rattle.fields.proofs.Numbers.{Reading}
 use Rattle.fields.proofs.read_number.Given as goal
 

@@ -1,5 +1,4 @@
 use Rattle.std.proofs.Common.{rules}
-use Prim.Native.Nat.{◌-◌}
 use Rattle.listing.proofs.Lining.{entered_none, entered_more, entered_used, entered_all}
 use Rattle.listing.proofs.put_entries.Goals as goal
 

@@ -1,5 +1,4 @@
 use Rattle.std.proofs.Common.{rules}
-use Prim.Native.Nat.{◌-◌}
 use native.Mathlib.Omega.{arith}
 use Rattle.sums.proofs.Summing.{summed_none, summed_more, summed_all}
 use Rattle.sums.proofs.sums_of.Goals as goal

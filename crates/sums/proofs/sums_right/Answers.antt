@@ -1,8 +1,6 @@
 -- `sums::sums_right` meets its contract: one law for each way through it.
 use Rattle.std.proofs.Common.{rules}
 use Rattle.sums.proofs.Summing.{right_first, right_second}
-use Rattle.fields.proofs.read_number.Reads as read-number-reads
-use Rattle.sums.proofs.sums_of.Reads as sums-of-reads
 use Rattle.sums.proofs.sums_right.Goals as goal
 
 pub returns-then-first-sums : goal.returns-then-first-sums

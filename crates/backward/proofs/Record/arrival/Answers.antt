@@ -1,11 +1,7 @@
 -- `backward::Record::arrival` meets its contract: each way through it is one case of the rule of an arrival.
 use Rattle.std.proofs.Common.{rules}
-use Prim.Native.Nat.{◌<◌}
-use lib.Signed.{mag}
 use Rattle.queues.specs.Checked.{both_lent, checked_unlent, checked_unformed}
 use Rattle.queues.specs.Ready.{Storable}
-use Rattle.signs.specs.Bounds.{reach}
-use Rattle.backward.specs.Record.{tag_of}
 use Rattle.backward.specs.Arrival.{arrival_rule}
 use Rattle.backward.proofs.Arriving.{arrived_refused, storing, arrived}
 use Rattle.backward.proofs.Checking.{Passed, passed}

@@ -1,7 +1,6 @@
 -- `card::legal::block_legal` meets its contract: one law for each way through it.
 use Rattle.std.proofs.Common.{rules}
 use Rattle.card.proofs.Ways.{legal_none, legal_many, legal_places}
-use Rattle.card.proofs.legal.places_legal.Reads as places-legal-reads
 use Rattle.card.proofs.legal.block_legal.Goals as goal
 
 pub returns-then-block-eq0 : goal.returns-then-block-eq0

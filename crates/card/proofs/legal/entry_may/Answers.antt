@@ -1,8 +1,6 @@
 -- `card::legal::entry_may` meets its contract: one law for each way through it.
 use Rattle.std.proofs.Common.{rules}
 use Rattle.card.proofs.Ways.{may_used, may_unused}
-use Rattle.entries.proofs.entry_blank.Reads as entry-blank-reads
-use Rattle.entries.proofs.entry_legal.Reads as entry-legal-reads
 use Rattle.card.proofs.legal.entry_may.Goals as goal
 
 pub returns-then-place-count : goal.returns-then-place-count

@@ -1,7 +1,5 @@
 use Rattle.std.proofs.Common.{rules}
-use Prim.Native.Nat.{◌-◌}
 use Rattle.card.proofs.Ways.{judged_none, judged_more, judged_all}
-use Rattle.card.proofs.legal.entry_may.Reads as entry-may-reads
 use Rattle.card.proofs.legal.places_legal.Goals as goal
 
 pub loop-place-init : goal.loop-place-init

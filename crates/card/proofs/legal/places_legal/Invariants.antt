@@ -2,7 +2,6 @@
 -- The measure is what is left of the 31.
 use Prim.Native.Nat.{◌-◌}
 use Rattle.card.proofs.Ways.{Judged}
-use Rattle.card.proofs.legal.entry_may.Reads as entry-may-reads
 use Rattle.card.proofs.legal.places_legal.Given as goal
 
 abbrev pub invariant-loop-place : goal.invariant-loop-place

@@ -5,8 +5,6 @@ use Prim.Native.Nat.{ℕ, ◌^◌}
 use native.Mathlib.Omega.{arith}
 use Rattle.fields.specs.Laws.{part_length}
 use Rattle.card.proofs.Blocks.{block_told}
-use Rattle.card.proofs.reader.entries_of.Reads as entries-of-reads
-use Rattle.fields.proofs.read_number.Reads as read-number-reads
 use Rattle.card.proofs.reader.block_of.Goals as goal
 
 pub overflow_cast-number : goal.overflow_cast-number

@@ -1,9 +1,6 @@
 use Rattle.std.proofs.Common.{rules}
-use Prim.Native.Nat.{◌-◌}
 use Rattle.below.specs.Made.{made_all}
 use Rattle.card.proofs.Blocks.{read_none, read_more}
-use Rattle.entries.proofs.no_entry.Reads as no-entry-reads
-use Rattle.entries.proofs.read_entry.Reads as read-entry-reads
 use Rattle.card.proofs.reader.entries_of.Goals as goal
 
 pub loop-place-init : goal.loop-place-init

@@ -4,8 +4,6 @@ use Prim.Native.Nat.{◌-◌}
 use Rattle.below.specs.Made.{Made}
 use Rattle.entries.specs.Entry.{no_entry}
 use Rattle.card.specs.Block.{entry_at}
-use Rattle.entries.proofs.no_entry.Reads as no-entry-reads
-use Rattle.entries.proofs.read_entry.Reads as read-entry-reads
 use Rattle.card.proofs.reader.entries_of.Given as goal
 
 abbrev pub invariant-loop-place : goal.invariant-loop-place

@@ -1,11 +1,6 @@
 -- `card::reader::read_block` meets its contract: one law for each way through it.
 use Rattle.std.proofs.Common.{rules}
 use Rattle.card.proofs.Ways.{read_short, read_sums, read_head, read_field, read_done}
-use Rattle.card.proofs.legal.block_legal.Reads as block-legal-reads
-use Rattle.card.proofs.reader.block_of.Reads as block-of-reads
-use Rattle.card.proofs.reader.refused.Reads as refused-reads
-use Rattle.fields.proofs.read_number.Reads as read-number-reads
-use Rattle.sums.proofs.sums_right.Reads as sums-right-reads
 use Rattle.card.proofs.reader.read_block.Goals as goal
 
 pub returns-then-bytes-ne512 : goal.returns-then-bytes-ne512

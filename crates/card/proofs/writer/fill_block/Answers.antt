@@ -1,5 +1,5 @@
 -- The body, then the sums of what was written.
-use Rattle.std.proofs.Common.{rules, ◌≡◌, length, arith}
+use Rattle.std.proofs.Common.{rules, ◌≡◌, length}
 use Rattle.card.proofs.Blocks.{block_written}
 use Rattle.card.proofs.writer.fill_block.Goals as goal
 

@@ -1,7 +1,5 @@
 use Rattle.std.proofs.Common.{rules}
-use Prim.Native.Nat.{◌-◌}
 use Rattle.card.proofs.Blocks.{filling_none, filling_more, filling_all}
-use Rattle.entries.proofs.write_entry.Reads as write-entry-reads
 use Rattle.card.proofs.writer.fill_entries.Goals as goal
 
 pub loop-place-init : goal.loop-place-init

@@ -2,7 +2,6 @@
 -- written. The measure is what is left of the 31.
 use Prim.Native.Nat.{◌-◌}
 use Rattle.card.proofs.Blocks.{Filling}
-use Rattle.entries.proofs.write_entry.Reads as write-entry-reads
 use Rattle.card.proofs.writer.fill_entries.Given as goal
 
 abbrev pub invariant-loop-place : goal.invariant-loop-place

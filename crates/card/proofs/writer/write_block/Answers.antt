@@ -1,8 +1,6 @@
 -- `card::writer::write_block` meets its contract: one law for each way through it.
 use Rattle.std.proofs.Common.{rules}
 use Rattle.card.proofs.Ways.{write_short, write_field, write_done}
-use Rattle.card.proofs.legal.block_legal.Reads as block-legal-reads
-use Rattle.card.proofs.writer.fill_block.Reads as fill-block-reads
 use Rattle.card.proofs.writer.write_block.Goals as goal
 
 pub returns-then-bytes-ne512 : goal.returns-then-bytes-ne512

@@ -1,5 +1,4 @@
 use Rattle.std.proofs.Common.{rules}
-use Prim.Native.Nat.{◌-◌}
 use Rattle.cardgate.proofs.Tests.{tested_none, tested_more, tested_all}
 use Rattle.cardgate.proofs.content.entries_fit.Goals as goal
 

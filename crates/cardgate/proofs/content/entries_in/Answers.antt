@@ -1,5 +1,4 @@
 use Rattle.std.proofs.Common.{rules}
-use Prim.Native.Nat.{◌-◌}
 use Rattle.below.specs.Made.{made_all}
 use Rattle.cardgate.proofs.Tests.{lent_fits}
 use Rattle.cardgate.proofs.Words.{read_none, read_more}

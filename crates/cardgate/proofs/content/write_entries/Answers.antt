@@ -1,5 +1,4 @@
 use Rattle.std.proofs.Common.{rules}
-use Prim.Native.Nat.{◌-◌}
 use Rattle.cardgate.proofs.Words.{filling_none, filling_more, filling_all}
 use Rattle.cardgate.proofs.content.write_entries.Goals as goal
 

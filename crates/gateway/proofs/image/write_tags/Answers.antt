@@ -1,6 +1,5 @@
 use Rattle.std.proofs.Common.{rules}
 use mathlib.Core.Path.{sym, ◌∙◌}
-use Prim.Native.Nat.{◌-◌}
 use native.Mathlib.Omega.{arith}
 use lib.ListN.{length-set}
 use Rattle.below.specs.Copied.{copied_none, copied_more, copied_all}

@@ -1,5 +1,4 @@
 use Rattle.std.proofs.Common.{rules}
-use Prim.Native.Nat.{◌-◌}
 use Rattle.lines.specs.Ends.{part_length, line_start, line_within, next_fits}
 use Rattle.lines.proofs.Onward.{going_none, going_within, going_full, going_all, line_room, going_more}
 use Rattle.lines.proofs.Script.run.Goals as goal

@@ -1,5 +1,4 @@
 use Rattle.std.proofs.Common.{rules}
-use Prim.Native.Nat.{◌-◌}
 use Rattle.lines.proofs.Digits.{reads_none, reads_more, digit_low, digit_fits, times_fits, plus_fits}
 use Rattle.lines.proofs.Digits.{length_wrong, no_digit, too_large, value_read}
 use Rattle.lines.proofs.reading.number.Goals as goal

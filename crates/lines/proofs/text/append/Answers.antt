@@ -1,5 +1,4 @@
 use Rattle.std.proofs.Common.{rules}
-use Prim.Native.Nat.{◌-◌}
 use Rattle.lines.proofs.Putting.{putting_none, putting_more, putting_all}
 use Rattle.lines.proofs.text.append.Goals as goal
 

@@ -1,5 +1,4 @@
 use Rattle.std.proofs.Common.{rules}
-use Prim.Native.Nat.{◌-◌}
 use Rattle.lines.proofs.Seeking.{sought_none, sought_more, sought_here, sought_end}
 use Rattle.lines.proofs.text.end_from.Goals as goal
 

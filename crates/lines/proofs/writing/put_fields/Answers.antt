@@ -1,5 +1,4 @@
 use Rattle.std.proofs.Common.{rules, arith}
-use Prim.Native.Nat.{◌-◌}
 use Rattle.lines.proofs.Spacing.{fielded_none, fielded_room, fielded_behind, fielded_more}
 use Rattle.lines.proofs.Spacing.{fielded_kept, fielded_all, fielded_few}
 use Rattle.lines.proofs.writing.put_fields.Goals as goal

@@ -1,4 +1,4 @@
-use Rattle.std.proofs.Common.{◌-◌, sym, ap, ◌∙◌, arith, rules}
+use Rattle.std.proofs.Common.{sym, ap, ◌∙◌, arith, rules}
 use Rattle.below.specs.Below.{all_below, all_below_none}
 use Rattle.queues.proofs.Testing.{ranges_turn}
 use Rattle.queues.proofs.form.ranges_ok.Goals as goal

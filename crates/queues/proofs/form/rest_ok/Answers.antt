@@ -1,4 +1,4 @@
-use Rattle.std.proofs.Common.{◌-◌, ap, ◌∙◌, arith, rules}
+use Rattle.std.proofs.Common.{ap, ◌∙◌, arith, rules}
 use Rattle.below.specs.Below.{all_below}
 use Rattle.below.specs.Faults.{rest_none}
 use Rattle.queues.specs.Form.{queues_spare}

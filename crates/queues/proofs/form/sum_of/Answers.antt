@@ -1,4 +1,4 @@
-use Rattle.std.proofs.Common.{◌-◌, sym, ap, ◌∙◌, arith, rules}
+use Rattle.std.proofs.Common.{sym, ap, ◌∙◌, arith, rules}
 use Rattle.below.specs.Below.{sum_below, sum_below_none}
 use Rattle.queues.proofs.Testing.{sum_turn}
 use Rattle.queues.proofs.form.sum_of.Goals as goal

@@ -1,4 +1,4 @@
-use Rattle.std.proofs.Common.{◌-◌, sym, ap, ◌∙◌, le_antisymm, arith, rules}
+use Rattle.std.proofs.Common.{sym, ap, ◌∙◌, le_antisymm, arith, rules}
 use Rattle.below.specs.Below.{all_below, all_below_none}
 use Rattle.queues.proofs.Forming.{eight_turn}
 use Rattle.queues.proofs.lengths.eight_ok.Goals as goal

@@ -1,4 +1,4 @@
-use Rattle.std.proofs.Common.{◌-◌, arith}
+use Rattle.std.proofs.Common.{arith}
 use Rattle.queues.proofs.Opens.{booked_none, booked_more, booked_all}
 use Rattle.queues.proofs.opening.booked.Goals as goal
 

@@ -1,4 +1,4 @@
-use Rattle.std.proofs.Common.{◌-◌, rules}
+use Rattle.std.proofs.Common.{rules}
 use Rattle.queues.proofs.Opens.{cleared_none, cleared_more, cleared_all}
 use Rattle.queues.proofs.opening.clear_lengths.Goals as goal
 

@@ -1,4 +1,4 @@
-use Rattle.std.proofs.Common.{◌-◌, arith, rules}
+use Rattle.std.proofs.Common.{arith, rules}
 use Rattle.queues.proofs.Opens.{share_most, passed_none, passed_more}
 use Rattle.queues.proofs.Opens.{share_refused, largest_refused, sum_refused, table_done}
 use Rattle.queues.proofs.opening.table_reply.Goals as goal

@@ -1,4 +1,4 @@
-use Rattle.std.proofs.Common.{◌-◌, sym, ap, ◌∙◌, arith, rules}
+use Rattle.std.proofs.Common.{sym, ap, ◌∙◌, arith, rules}
 use Rattle.below.specs.Below.{most_below, most_below_none}
 use Rattle.queues.proofs.Testing.{width_turn}
 use Rattle.queues.proofs.opening.widest.Goals as goal

@@ -1,5 +1,4 @@
 use mathlib.Core.Path.{◌∙◌}
-use Prim.Native.Nat.{◌-◌}
 use Rattle.below.specs.Made.{made_none, made_more, made_all}
 use Rattle.signs.specs.Machine.{back_is}
 use Rattle.sidegate.proofs.image.signed_all.Goals as goal

@@ -1,4 +1,4 @@
-use Rattle.std.proofs.Common.{ℕ, ◌-◌, ◌<◌, get_or, ◌∙◌, ap₂, arith}
+use Rattle.std.proofs.Common.{ℕ, ◌<◌, get_or, ◌∙◌, ap₂, arith}
 use Rattle.tags.specs.Choice.{no_tag}
 use Rattle.tags.proofs.Choosing.{lead_as, as_led, flow_led, lead_begins, lead_ends, lead_moves, lead_stays}
 use Rattle.tags.proofs.choice.led_on.Goals as goal

@@ -1,4 +1,4 @@
-use Rattle.std.proofs.Common.{◌-◌, eqb, get_or, refl, ap, ◌∙◌, arith, rules}
+use Rattle.std.proofs.Common.{eqb, get_or, refl, ap, ◌∙◌, arith, rules}
 use Rattle.below.specs.Below.{all_below}
 use Rattle.below.specs.Faults.{rest_none, rest_turn}
 use Rattle.tags.specs.Form.{tags_spare}

@@ -1,4 +1,4 @@
-use Rattle.std.proofs.Common.{◌-◌, true, sym, ap, ◌∙◌, arith, rules}
+use Rattle.std.proofs.Common.{sym, ap, ◌∙◌, arith, rules}
 use Rattle.below.specs.Below.{all_below, all_below_none}
 use Rattle.below.specs.Faults.{all_more, all_left}
 use Rattle.tags.specs.Form.{tags_formed}

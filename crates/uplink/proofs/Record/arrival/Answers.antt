@@ -9,11 +9,10 @@ use Rattle.uplink.proofs.Arriving.{taken, arrived_refused, arrived_first, arrive
 use Rattle.uplink.proofs.Record.arrival.Goals as goal
 
 pub is_formed-requires : goal.is_formed-requires
-is_formed-requires c =
-    (
-      (both_lent c.args.lengths.now c.args.handles.now _ c.are_lent.ensures c.if-not-are_lent.false-raw).0,
-      c.table-table.ensures.rounded,
-    )
+is_formed-requires c = (
+  (both_lent c.args.lengths.now c.args.handles.now _ c.are_lent.ensures c.if-not-are_lent.false-raw).0,
+  c.table-table.ensures.rounded,
+)
 
 pub arrival_reply-reply-requires : goal.arrival_reply-reply-requires
 arrival_reply-reply-requires c = (was_formed c.args.self c.args.lengths.now _ c.is_formed.ensures c.if-not-is_formed.false-raw).few
@@ -110,29 +109,37 @@ returns-then-not-are_lent c = search (rules, checked_unlent)
 
 pub returns-then-not-is_formed : goal.returns-then-not-is_formed
 returns-then-not-is_formed c =
-    record { exact = checked_unformed c.args.self c.args.lengths.now c.args.handles.now _ _ c.are_lent.ensures
-    c.if-not-are_lent.false-raw _ c.is_formed.ensures c.if-not-is_formed.true-raw }
+    record {
+      exact = checked_unformed c.args.self c.args.lengths.now c.args.handles.now _ _ c.are_lent.ensures
+          c.if-not-are_lent.false-raw _ c.is_formed.ensures c.if-not-is_formed.true-raw;
+    }
 
 pub returns-then-waiting-eq0 : goal.returns-then-waiting-eq0
 returns-then-waiting-eq0 c =
-    record { exact = arrived_first c.args.self c.args.lengths.now c.args.handles.now c.args.flow c.args.length c.args.handle _
-    c.are_lent.ensures c.if-not-are_lent.false-raw _ c.is_formed.ensures c.if-not-is_formed.false-raw _
-    c.arrival_reply-reply.ensures
-    c.in-Done.is _ _ _ _ _ c.field-first.ensures
-    c.join-waiting.ensures.0 c.store.ensures c.join-waiting.ensures.1 _ _ _ _ _ c.if-waiting-eq0.true
-    c.field.ensures c.cost_at-cost.ensures.found c.tag_at-tag.ensures c.front_tag-next.ensures
-    c.put_tag.ensures }
+    record {
+      exact = arrived_first c.args.self c.args.lengths.now c.args.handles.now c.args.flow c.args.length c.args.handle _
+          c.are_lent.ensures c.if-not-are_lent.false-raw _ c.is_formed.ensures c.if-not-is_formed.false-raw _
+          c.arrival_reply-reply.ensures
+          c.in-Done.is _ _ _ _ _ c.field-first.ensures
+          c.join-waiting.ensures.0 c.store.ensures c.join-waiting.ensures.1 _ _ _ _ _ c.if-waiting-eq0.true
+          c.field.ensures c.cost_at-cost.ensures.found c.tag_at-tag.ensures c.front_tag-next.ensures
+          c.put_tag.ensures;
+    }
 
 pub returns-else-waiting-eq0 : goal.returns-else-waiting-eq0
 returns-else-waiting-eq0 c =
-    record { exact = arrived_behind c.args.self c.args.lengths.now c.args.handles.now c.args.flow c.args.length c.args.handle _
-    c.are_lent.ensures c.if-not-are_lent.false-raw _ c.is_formed.ensures c.if-not-is_formed.false-raw _
-    c.arrival_reply-reply.ensures
-    c.in-Done.is _ _ _ _ _ c.field-first.ensures
-    c.join-waiting.ensures.0 c.store.ensures c.join-waiting.ensures.1 c.if-waiting-eq0.false }
+    record {
+      exact = arrived_behind c.args.self c.args.lengths.now c.args.handles.now c.args.flow c.args.length c.args.handle _
+          c.are_lent.ensures c.if-not-are_lent.false-raw _ c.is_formed.ensures c.if-not-is_formed.false-raw _
+          c.arrival_reply-reply.ensures
+          c.in-Done.is _ _ _ _ _ c.field-first.ensures
+          c.join-waiting.ensures.0 c.store.ensures c.join-waiting.ensures.1 c.if-waiting-eq0.false;
+    }
 
 pub returns-in_default : goal.returns-in_default
 returns-in_default c =
-    record { exact = arrived_refused c.args.self c.args.lengths.now c.args.handles.now c.args.flow c.args.length c.args.handle _
-    c.are_lent.ensures c.if-not-are_lent.false-raw _ c.is_formed.ensures c.if-not-is_formed.false-raw _
-    c.arrival_reply-reply.ensures _ c.in_default.is }
+    record {
+      exact = arrived_refused c.args.self c.args.lengths.now c.args.handles.now c.args.flow c.args.length c.args.handle _
+          c.are_lent.ensures c.if-not-are_lent.false-raw _ c.is_formed.ensures c.if-not-is_formed.false-raw _
+          c.arrival_reply-reply.ensures _ c.in_default.is;
+    }

@@ -7,8 +7,11 @@ use Rattle.uplink.proofs.Record.opening.Goals as goal
 
 pub overflow_cast-flows : goal.overflow_cast-flows
 overflow_cast-flows c =
-    omega (arith, let known : Openable c.args.shares.now c.args.largest.now c.args.header c.args.lengths.now c.args.handles.now = taken c.args.shares.now c.args.largest.now c.args.header c.args.lengths.now c.args.handles.now _
-    c.opening_reply-reply.ensures c.in-Done.is in known.few)
+    omega (
+      arith,
+      let known : Openable c.args.shares.now c.args.largest.now c.args.header c.args.lengths.now c.args.handles.now = taken c.args.shares.now c.args.largest.now c.args.header c.args.lengths.now c.args.handles.now _
+          c.opening_reply-reply.ensures c.in-Done.is in known.few,
+    )
 
 pub opened-opened-requires : goal.opened-opened-requires
 opened-opened-requires c =
@@ -17,8 +20,11 @@ opened-opened-requires c =
 
 pub overflow_cast-bytes : goal.overflow_cast-bytes
 overflow_cast-bytes c =
-    omega (arith, let known : Openable c.args.shares.now c.args.largest.now c.args.header c.args.lengths.now c.args.handles.now = taken c.args.shares.now c.args.largest.now c.args.header c.args.lengths.now c.args.handles.now _
-    c.opening_reply-reply.ensures c.in-Done.is in known.short)
+    omega (
+      arith,
+      let known : Openable c.args.shares.now c.args.largest.now c.args.header c.args.lengths.now c.args.handles.now = taken c.args.shares.now c.args.largest.now c.args.header c.args.lengths.now c.args.handles.now _
+          c.opening_reply-reply.ensures c.in-Done.is in known.short,
+    )
 
 pub widest-width-requires : goal.widest-width-requires
 widest-width-requires c =
@@ -28,8 +34,11 @@ widest-width-requires c =
 
 pub overflow_cast-next : goal.overflow_cast-next
 overflow_cast-next c =
-    omega (arith, let known : Openable c.args.shares.now c.args.largest.now c.args.header c.args.lengths.now c.args.handles.now = taken c.args.shares.now c.args.largest.now c.args.header c.args.lengths.now c.args.handles.now _
-    c.opening_reply-reply.ensures c.in-Done.is in known.few)
+    omega (
+      arith,
+      let known : Openable c.args.shares.now c.args.largest.now c.args.header c.args.lengths.now c.args.handles.now = taken c.args.shares.now c.args.largest.now c.args.header c.args.lengths.now c.args.handles.now _
+          c.opening_reply-reply.ensures c.in-Done.is in known.few,
+    )
 
 pub overflow_cast-next-in-Done : goal.overflow_cast-next-in-Done
 overflow_cast-next-in-Done c =
@@ -39,16 +48,20 @@ overflow_cast-next-in-Done c =
 
 pub returns-in-Done : goal.returns-in-Done
 returns-in-Done c =
-    record { exact = opening_done c.args.shares.now c.args.largest.now c.args.header c.args.lengths.now c.args.handles.now _
-    c.opening_reply-reply.ensures c.in-Done.is _ _ _ _ _
-    c.opened-opened.ensures
-    c.blank-next.ensures
-    c.widest-width.ensures
-    c.clear_lengths.ensures
-    c.clear_handles.ensures }
+    record {
+      exact = opening_done c.args.shares.now c.args.largest.now c.args.header c.args.lengths.now c.args.handles.now _
+          c.opening_reply-reply.ensures c.in-Done.is _ _ _ _ _
+          c.opened-opened.ensures
+          c.blank-next.ensures
+          c.widest-width.ensures
+          c.clear_lengths.ensures
+          c.clear_handles.ensures;
+    }
 
 pub returns-in_default : goal.returns-in_default
 returns-in_default c =
-    record { exact = opening_refused c.args.shares.now c.args.largest.now c.args.header c.args.lengths.now c.args.handles.now _
-    c.opening_reply-reply.ensures _ _
-    c.blank-next.ensures c.in_default.is }
+    record {
+      exact = opening_refused c.args.shares.now c.args.largest.now c.args.header c.args.lengths.now c.args.handles.now _
+          c.opening_reply-reply.ensures _ _
+          c.blank-next.ensures c.in_default.is;
+    }

@@ -10,11 +10,10 @@ use Rattle.uplink.proofs.Picking.{picked_more, picked_last}
 use Rattle.uplink.proofs.Record.pick.Goals as goal
 
 pub is_formed-requires : goal.is_formed-requires
-is_formed-requires c =
-    (
-      (both_lent c.args.lengths.now c.args.handles.now _ c.are_lent.ensures c.if-not-are_lent.false-raw).0,
-      c.table-table.ensures.rounded,
-    )
+is_formed-requires c = (
+  (both_lent c.args.lengths.now c.args.handles.now _ c.are_lent.ensures c.if-not-are_lent.false-raw).0,
+  c.table-table.ensures.rounded,
+)
 
 pub choose-lead-requires : goal.choose-lead-requires
 choose-lead-requires c =
@@ -101,44 +100,54 @@ returns-then-not-are_lent c = search (rules, checked_unlent)
 
 pub returns-then-not-is_formed : goal.returns-then-not-is_formed
 returns-then-not-is_formed c =
-    record { exact = checked_unformed c.args.self c.args.lengths.now c.args.handles.now _ _ c.are_lent.ensures
-    c.if-not-are_lent.false-raw _ c.is_formed.ensures c.if-not-is_formed.true-raw }
+    record {
+      exact = checked_unformed c.args.self c.args.lengths.now c.args.handles.now _ _ c.are_lent.ensures
+          c.if-not-are_lent.false-raw _ c.is_formed.ensures c.if-not-is_formed.true-raw;
+    }
 
 pub returns-then-not-lead : goal.returns-then-not-lead
 returns-then-not-lead c =
-    record { exact = picked_idle c.args.self c.args.lengths.now c.args.handles.now _ c.are_lent.ensures
-    c.if-not-are_lent.false-raw _
-    c.is_formed.ensures c.if-not-is_formed.false-raw _ c.choose-lead.ensures
-    c.if-not-lead.true }
+    record {
+      exact = picked_idle c.args.self c.args.lengths.now c.args.handles.now _ c.are_lent.ensures
+          c.if-not-are_lent.false-raw _
+          c.is_formed.ensures c.if-not-is_formed.false-raw _ c.choose-lead.ensures
+          c.if-not-lead.true;
+    }
 
 pub returns-then-self-ge-CLOCK_LIMIT : goal.returns-then-self-ge-CLOCK_LIMIT
 returns-then-self-ge-CLOCK_LIMIT c =
-    record { exact = picked_late c.args.self c.args.lengths.now c.args.handles.now _ c.are_lent.ensures
-    c.if-not-are_lent.false-raw _
-    c.is_formed.ensures c.if-not-is_formed.false-raw _ c.choose-lead.ensures
-    c.if-not-lead.false c.if-self-ge-CLOCK_LIMIT.true }
+    record {
+      exact = picked_late c.args.self c.args.lengths.now c.args.handles.now _ c.are_lent.ensures
+          c.if-not-are_lent.false-raw _
+          c.is_formed.ensures c.if-not-is_formed.false-raw _ c.choose-lead.ensures
+          c.if-not-lead.false c.if-self-ge-CLOCK_LIMIT.true;
+    }
 
 pub returns-then-waiting-gt1 : goal.returns-then-waiting-gt1
 returns-then-waiting-gt1 c =
-    record { exact = picked_more c.args.self c.args.lengths.now c.args.handles.now _ c.are_lent.ensures
-    c.if-not-are_lent.false-raw _
-    c.is_formed.ensures c.if-not-is_formed.false-raw _ c.choose-lead.ensures
-    c.if-not-lead.false c.if-self-ge-CLOCK_LIMIT.false _ _ _ _ _ _ _ _ _ c.turn_after.ensures
-    c.leap-leap.ensures
-    c.go_on-first.ensures.0
-    c.leave-waiting.ensures.0 c.advance-gone.ensures c.go_on-first.ensures.1
-    c.leave-waiting.ensures.1 _ _ _ _
-    c.if-waiting-gt1.true c.field.ensures c.cost_at-cost.ensures.found c.front_tag-next.ensures
-    c.put_tag.ensures }
+    record {
+      exact = picked_more c.args.self c.args.lengths.now c.args.handles.now _ c.are_lent.ensures
+          c.if-not-are_lent.false-raw _
+          c.is_formed.ensures c.if-not-is_formed.false-raw _ c.choose-lead.ensures
+          c.if-not-lead.false c.if-self-ge-CLOCK_LIMIT.false _ _ _ _ _ _ _ _ _ c.turn_after.ensures
+          c.leap-leap.ensures
+          c.go_on-first.ensures.0
+          c.leave-waiting.ensures.0 c.advance-gone.ensures c.go_on-first.ensures.1
+          c.leave-waiting.ensures.1 _ _ _ _
+          c.if-waiting-gt1.true c.field.ensures c.cost_at-cost.ensures.found c.front_tag-next.ensures
+          c.put_tag.ensures;
+    }
 
 pub returns-else-waiting-gt1 : goal.returns-else-waiting-gt1
 returns-else-waiting-gt1 c =
-    record { exact = picked_last c.args.self c.args.lengths.now c.args.handles.now _ c.are_lent.ensures
-    c.if-not-are_lent.false-raw _
-    c.is_formed.ensures c.if-not-is_formed.false-raw _ c.choose-lead.ensures
-    c.if-not-lead.false c.if-self-ge-CLOCK_LIMIT.false _ _ _ _ _ _ _ _ _ c.turn_after.ensures
-    c.leap-leap.ensures
-    c.go_on-first.ensures.0
-    c.leave-waiting.ensures.0 c.advance-gone.ensures c.go_on-first.ensures.1
-    c.leave-waiting.ensures.1
-    c.if-waiting-gt1.false }
+    record {
+      exact = picked_last c.args.self c.args.lengths.now c.args.handles.now _ c.are_lent.ensures
+          c.if-not-are_lent.false-raw _
+          c.is_formed.ensures c.if-not-is_formed.false-raw _ c.choose-lead.ensures
+          c.if-not-lead.false c.if-self-ge-CLOCK_LIMIT.false _ _ _ _ _ _ _ _ _ c.turn_after.ensures
+          c.leap-leap.ensures
+          c.go_on-first.ensures.0
+          c.leave-waiting.ensures.0 c.advance-gone.ensures c.go_on-first.ensures.1
+          c.leave-waiting.ensures.1
+          c.if-waiting-gt1.false;
+    }
