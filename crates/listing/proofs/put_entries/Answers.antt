@@ -1,3 +1,4 @@
+-- `listing::put_entries` meets its contract. What its loop keeps is in Invariants.
 use Rattle.std.proofs.Common.{rules}
 use Rattle.listing.proofs.Lining.{entered_none, entered_more, entered_used, entered_all}
 use Rattle.listing.proofs.put_entries.Goals as goal

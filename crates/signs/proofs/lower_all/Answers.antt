@@ -1,3 +1,4 @@
+-- `signs::lower_all` meets its contract. What its loop keeps is in Invariants.
 use mathlib.Core.Path.{ap, ◌∙◌}
 use lib.IntN.{pos}
 use lib.ListN.{get_or}

@@ -1,3 +1,4 @@
+-- `sums::sums_of` meets its contract. What its loop keeps is in Invariants.
 use Rattle.std.proofs.Common.{rules}
 use native.Mathlib.Omega.{arith}
 use Rattle.sums.proofs.Summing.{summed_none, summed_more, summed_all}

@@ -1,3 +1,4 @@
+-- `card::legal::places_legal` meets its contract. What its loop keeps is in Invariants.
 use Rattle.std.proofs.Common.{rules}
 use Rattle.card.proofs.Ways.{judged_none, judged_more, judged_all}
 use Rattle.card.proofs.legal.places_legal.Goals as goal

@@ -1,3 +1,4 @@
+-- `card::reader::entries_of` meets its contract. What its loop keeps is in Invariants.
 use Rattle.std.proofs.Common.{rules}
 use Rattle.below.specs.Made.{made_all}
 use Rattle.card.proofs.Blocks.{read_none, read_more}

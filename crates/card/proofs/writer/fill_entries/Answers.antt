@@ -1,3 +1,4 @@
+-- `card::writer::fill_entries` meets its contract. What its loop keeps is in Invariants.
 use Rattle.std.proofs.Common.{rules}
 use Rattle.card.proofs.Blocks.{filling_none, filling_more, filling_all}
 use Rattle.card.proofs.writer.fill_entries.Goals as goal

@@ -1,3 +1,4 @@
+-- `cardgate::content::entries_fit` meets its contract. What its loop keeps is in Invariants.
 use Rattle.std.proofs.Common.{rules}
 use Rattle.cardgate.proofs.Tests.{tested_none, tested_more, tested_all}
 use Rattle.cardgate.proofs.content.entries_fit.Goals as goal

@@ -1,3 +1,4 @@
+-- `cardgate::content::entries_in` meets its contract. What its loop keeps is in Invariants.
 use Rattle.std.proofs.Common.{rules}
 use Rattle.below.specs.Made.{made_all}
 use Rattle.cardgate.proofs.Tests.{lent_fits}

@@ -1,3 +1,4 @@
+-- `cardgate::content::write_entries` meets its contract. What its loop keeps is in Invariants.
 use Rattle.std.proofs.Common.{rules}
 use Rattle.cardgate.proofs.Words.{filling_none, filling_more, filling_all}
 use Rattle.cardgate.proofs.content.write_entries.Goals as goal

@@ -1,3 +1,4 @@
+-- `gateway::image::tags_in` meets its contract. What its loop keeps is in Invariants.
 use Rattle.std.proofs.Common.{rules}
 use native.Mathlib.Omega.{arith}
 use lib.ListN.{replicate}

@@ -1,3 +1,4 @@
+-- `lines::reading::number` meets its contract. What its loop keeps is in Invariants.
 use Rattle.std.proofs.Common.{rules}
 use Rattle.lines.proofs.Digits.{reads_none, reads_more, digit_low, digit_fits, times_fits, plus_fits}
 use Rattle.lines.proofs.Digits.{length_wrong, no_digit, too_large, value_read}

@@ -1,3 +1,4 @@
+-- `lines::text::append` meets its contract. What its loop keeps is in Invariants.
 use Rattle.std.proofs.Common.{rules}
 use Rattle.lines.proofs.Putting.{putting_none, putting_more, putting_all}
 use Rattle.lines.proofs.text.append.Goals as goal

@@ -1,3 +1,4 @@
+-- `lines::text::end_from` meets its contract. What its loop keeps is in Invariants.
 use Rattle.std.proofs.Common.{rules}
 use Rattle.lines.proofs.Seeking.{sought_none, sought_more, sought_here, sought_end}
 use Rattle.lines.proofs.text.end_from.Goals as goal

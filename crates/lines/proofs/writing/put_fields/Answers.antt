@@ -1,3 +1,4 @@
+-- `lines::writing::put_fields` meets its contract. What its loop keeps is in Invariants.
 use Rattle.std.proofs.Common.{rules, arith}
 use Rattle.lines.proofs.Spacing.{fielded_none, fielded_room, fielded_behind, fielded_more}
 use Rattle.lines.proofs.Spacing.{fielded_kept, fielded_all, fielded_few}

@@ -1,3 +1,4 @@
+-- `lines::writing::spell` meets its contract. What its loop keeps is in Invariants.
 use Rattle.std.proofs.Common.{rules}
 use Rattle.lines.proofs.Digits.{spells_none, place_before, spells_more, spells_all}
 use Rattle.lines.proofs.writing.spell.Goals as goal

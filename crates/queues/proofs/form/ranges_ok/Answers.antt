@@ -1,3 +1,4 @@
+-- `queues::form::ranges_ok` meets its contract. What its loop keeps is in Invariants.
 use Rattle.std.proofs.Common.{sym, ap, ◌∙◌, arith, rules}
 use Rattle.below.specs.Below.{all_below, all_below_none}
 use Rattle.queues.proofs.Testing.{ranges_turn}

@@ -1,3 +1,4 @@
+-- `queues::form::rest_ok` meets its contract. What its loop keeps is in Invariants.
 use Rattle.std.proofs.Common.{ap, ◌∙◌, arith, rules}
 use Rattle.below.specs.Below.{all_below}
 use Rattle.below.specs.Faults.{rest_none}

@@ -1,3 +1,4 @@
+-- `queues::form::sum_of` meets its contract. What its loop keeps is in Invariants.
 use Rattle.std.proofs.Common.{sym, ap, ◌∙◌, arith, rules}
 use Rattle.below.specs.Below.{sum_below, sum_below_none}
 use Rattle.queues.proofs.Testing.{sum_turn}

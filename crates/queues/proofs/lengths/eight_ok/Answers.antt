@@ -1,3 +1,4 @@
+-- `queues::lengths::eight_ok` meets its contract. What its loop keeps is in Invariants.
 use Rattle.std.proofs.Common.{sym, ap, ◌∙◌, le_antisymm, arith, rules}
 use Rattle.below.specs.Below.{all_below, all_below_none}
 use Rattle.queues.proofs.Forming.{eight_turn}

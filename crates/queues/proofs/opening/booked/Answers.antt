@@ -1,3 +1,4 @@
+-- `queues::opening::booked` meets its contract. What its loop keeps is in Invariants.
 use Rattle.std.proofs.Common.{arith}
 use Rattle.queues.proofs.Opens.{booked_none, booked_more, booked_all}
 use Rattle.queues.proofs.opening.booked.Goals as goal

@@ -1,3 +1,4 @@
+-- `queues::opening::clear_handles` meets its contract. What its loop keeps is in Invariants.
 use Rattle.std.proofs.Common.{rules}
 use Rattle.queues.proofs.Opens.{cleared_none, cleared_more, cleared_all}
 use Rattle.queues.proofs.opening.clear_handles.Goals as goal

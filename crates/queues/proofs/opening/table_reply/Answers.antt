@@ -1,3 +1,4 @@
+-- `queues::opening::table_reply` meets its contract. What its loop keeps is in Invariants.
 use Rattle.std.proofs.Common.{arith, rules}
 use Rattle.queues.proofs.Opens.{share_most, passed_none, passed_more}
 use Rattle.queues.proofs.Opens.{share_refused, largest_refused, sum_refused, table_done}

@@ -1,3 +1,4 @@
+-- `queues::opening::widest` meets its contract. What its loop keeps is in Invariants.
 use Rattle.std.proofs.Common.{sym, ap, ◌∙◌, arith, rules}
 use Rattle.below.specs.Below.{most_below, most_below_none}
 use Rattle.queues.proofs.Testing.{width_turn}

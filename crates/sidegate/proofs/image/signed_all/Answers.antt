@@ -1,3 +1,4 @@
+-- `sidegate::image::signed_all` meets its contract. What its loop keeps is in Invariants.
 use mathlib.Core.Path.{◌∙◌}
 use Rattle.below.specs.Made.{made_none, made_more, made_all}
 use Rattle.signs.specs.Machine.{back_is}

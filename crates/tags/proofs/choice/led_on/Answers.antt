@@ -1,3 +1,4 @@
+-- `tags::choice::led_on` meets its contract. What its loop keeps is in Invariants.
 use Rattle.std.proofs.Common.{ℕ, ◌<◌, get_or, ◌∙◌, ap₂, arith}
 use Rattle.tags.specs.Choice.{no_tag}
 use Rattle.tags.proofs.Choosing.{lead_as, as_led, flow_led, lead_begins, lead_ends, lead_moves, lead_stays}

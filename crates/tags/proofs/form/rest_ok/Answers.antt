@@ -1,3 +1,4 @@
+-- `tags::form::rest_ok` meets its contract. What its loop keeps is in Invariants.
 use Rattle.std.proofs.Common.{eqb, get_or, refl, ap, ◌∙◌, arith, rules}
 use Rattle.below.specs.Below.{all_below}
 use Rattle.below.specs.Faults.{rest_none, rest_turn}

@@ -1,3 +1,4 @@
+-- `tags::form::tags_ok` meets its contract. What its loop keeps is in Invariants.
 use Rattle.std.proofs.Common.{sym, ap, ◌∙◌, arith, rules}
 use Rattle.below.specs.Below.{all_below, all_below_none}
 use Rattle.below.specs.Faults.{all_more, all_left}

@@ -1,5 +1,5 @@
 -- `uplink::Record::arrival` meets its contract: each way through it is one case of the rule of an arrival.
--- What the checks leave is gathered once (`ready`), and every step on the way to the end asks for a part of it.
+-- Every step on the way to the end asks for a part of what the checks leave.
 use Rattle.std.proofs.Common.{rules}
 use native.Mathlib.Omega.{arith}
 use Rattle.queues.specs.Checked.{both_lent}

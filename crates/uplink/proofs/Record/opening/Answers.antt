@@ -1,5 +1,5 @@
 -- `uplink::Record::opening` meets its contract: each way through it is one case of the rule of an opening.
--- What the checks leave is gathered once (`ready`), and every step on the way to the end asks for a part of it.
+-- Every step on the way to the end asks for a part of what the checks leave.
 use native.Mathlib.Omega.{arith}
 use Rattle.queues.specs.Openable.{Openable, small_lists, opened_shares, width_fits}
 use Rattle.uplink.proofs.Opens.{taken, opening_refused, opening_done}
