@@ -1,8 +1,9 @@
 // The program `logread`: the blocks of a log card (document 02 d) on standard input, of any length, and their entries
 // as lines on standard output. What a block says and whether it is refused is `card`, and the lines are `listing`, both
 // proved to the letter. This file is proved safe and to end: it counts the blocks, and the count stays below 2^64 - 1,
-// which is more than any input has. What no proof says, since no contract can speak of what is read or written, is that
-// it hands over the 512 bytes of each block in order, then a rest of fewer, and writes what it is given, once each.
+// which is more than any input has. What no proof says, since no contract can say what standard input gives and standard
+// output takes, is that it hands over the 512 bytes of each block in order, then a rest of fewer, and writes what it is
+// given, once each.
 #![tactic(auto)]
 
 use std::io::Write;

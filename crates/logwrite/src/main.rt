@@ -2,8 +2,8 @@
 // the blocks of its log (document 02 d) on standard output. What a line says is `lines`, the calls and what they log
 // are `cardlog`, and the bytes of a block are `card`, all proved to the letter. This file is proved safe and to end: it
 // counts the pieces that it reads, and the count stays below 2^64 - 1, which is more than any input has.
-// What no proof says, since no contract can speak of what is read or written, is that it hands over each line in order
-// and once, that an opening that is done ends the log so far, and that an entry goes into the block, and a block to
+// What no proof says, since no contract can say what standard input gives and standard output takes, is that it hands
+// over each line in order and once, that an opening that is done ends the log so far, and that an entry goes into the block, and a block to
 // standard output, as `feed` of `cardlog` has it: that this is the log is `fed_all` there. A line of more than 34 bytes
 // is bad whatever it says (`long_bad` of `lines`), so of a longer line the first 64 bytes are kept and say the same.
 #![tactic(auto)]

@@ -1,5 +1,6 @@
 -- What a row of a computed list is: calls on a state, the reply to each, and claims about what they leave.
--- Each row of a list is shown to hold where it stands (`holds`), so the checker tells a wrong one by its line.
+-- A row of the header or of the turn is shown to hold where it stands (`holds`), so the checker tells a wrong one by its
+-- line; that the others hold is computed in proofs/.
 -- Assumes nothing.
 use Rattle.std.specs.Prelude.{◌≡◌, refl, Bool, true, false, ◌&&◌, List, [], ◌∷◌, ◌++◌, ℕ, eqb, replicate}
 use Rattle.cost.specs.Cost.{cost_of}

@@ -1,4 +1,5 @@
--- P1 to P12 of document 01, "Examples on both sides": the rows of one list, with one claim over them.
+-- P1 to P12 of document 01, "Examples on both sides": the rows of one list. `rows_hold` of proofs/Rows is
+-- the one claim over them.
 -- Assumes nothing.
 use Rattle.std.specs.Prelude.{true, false, List, [], ◌∷◌, ◌++◌}
 use Rattle.reply.specs.Reply.{Reply, idle, done, refused, packet}

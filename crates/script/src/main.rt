@@ -1,8 +1,8 @@
 // The script program: document 01, "The script program". It runs a script of calls and writes a line for each reply.
 // Everything between the bytes read and the bytes written is `lines`, proved to the letter: where lines end, what they
-// say, the calls and the output. This file is proved safe and to end. What no proof says, since no contract can speak
-// of what is read or written, is that it reads the first 65,536 bytes of standard input and that it writes each buffer
-// that `Script::run` fills, in order and once. Where it does, it writes what the document says (`program_written` of
+// say, the calls and the output. This file is proved safe and to end. What no proof says, since no contract can say
+// what standard input gives and standard output takes, is that it reads the first 65,536 bytes of the one and that it
+// writes each buffer that `Script::run` fills to the other, in order and once. Where it does, it writes what the document says (`program_written` of
 // `lines`).
 #![tactic(auto)]
 

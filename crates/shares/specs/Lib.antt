@@ -1,6 +1,7 @@
--- Demand 3, the shares. An auditor reads `Runs` (what a run is), `Shares` (what is proved of every run), `Groups` (of
--- two flows, and of a front packet: document 02 b) and `Bites`.
--- `Rule`: the same for document 01's own pick. `Bites`: worked runs, the 3 that cannot be 2, the charges that cannot be
+-- Demand 3, the shares. An auditor reads `Runs` (what a run is), `Shares` (what is proved of every run; of demand 3 and
+-- of the clock it has the words, and proofs/Shares the theorems), `Groups` (of two flows, and of a front packet: document
+-- 02 b) and `Bites`.
+-- `Rule`: the same for document 01's own pick (demand 3 and the clock in proofs/Rule). `Bites`: worked runs, the 3 that cannot be 2, the charges that cannot be
 -- own bytes, a stand-in that breaks it. `GroupBites`: the same for `Groups`, and that both flows have to wait.
 -- `Worked`: how a worked run is computed.
 -- The argument, from numbers to runs. `Sum`: sums over the flows. `Own`: one flow's part of the backlog.
