@@ -1,67 +1,121 @@
 -- What each way through an arrival gives, as the rule has it.
 -- Assumes nothing.
-use mathlib.Core.Path.{◌≡◌, sym}
-use mathlib.Core.Bool.{cond}
-use mathlib.Core.List.{List, []}
-use Prim.Native.Nat.{ℕ, ◌+◌, ◌<◌}
-use native.Mathlib.Omega.{arith}
-use lib.Dec.{eqb}
-use lib.ListN.{set}
-use lib.Signed.{mag}
-use Rattle.cost.specs.Cost.{costs}
+use Rattle.std.specs.Prelude.{◌≡◌, ◌≢◌, ℕ, ◌+◌, ◌≤◌, List, [], pos, slice_index, set, Result, Ok, Err}
+use Rattle.std.proofs.Common.{sym, ap, ◌∙◌, arith}
+use lib.Seq.{set-get_or}
+use borrow.Author.Tests.{eq-eqb, ne_eqb}
 use Rattle.cost.specs.Charge.{charge_of}
-use Rattle.reply.specs.Reply.{done, arrival_reply}
+use Rattle.reply.specs.Reply.{done, done_reply}
+use Rattle.reply.specs.State.{state, outcome, unless_refused}
 use Rattle.reply.specs.Replies.{told}
-use Rattle.reply.specs.State.{state, outcome}
-use Rattle.reply.specs.declared.ArrivalReply.{ArrivalReply}
 use Rattle.reply.specs.declared.Refusal.{Refusal}
 use Rattle.queues.specs.Queue.{place_of, cost_to}
 use Rattle.queues.specs.Queues.{queues_of, put_joined}
 use Rattle.queues.specs.Places.{join_reply}
-use Rattle.queues.specs.Ready.{Storable}
+use Rattle.queues.specs.Checked.{ready_reply, ready_done, unready, is_ready, replied_on, checked_reply}
+use Rattle.queues.specs.declared.Queues.{Queues}
 use Rattle.signs.specs.Tags.{front_tag}
-use Rattle.signs.specs.Bounds.{reach}
+use Rattle.uplink.specs.Formed.{formed_out}
 use Rattle.uplink.specs.Ready.{stored}
 use Rattle.backward.specs.Record.{tag_of, queue_of, waiting_of, with, tagged, put}
 use Rattle.backward.specs.Raised.{raised_record}
+use Rattle.backward.specs.State.{State}
+use Rattle.backward.specs.Form.{formed}
 use Rattle.backward.specs.Formed.{all_near}
-use Rattle.backward.specs.Arrival.{store_rule, arrival_rule}
+use Rattle.backward.specs.Arrival.{joining, admit_reply, store_rule, arrival_rule}
+use Rattle.backward.specs.Ready.{Stored}
 use Rattle.backward.specs.declared.Record.{Record}
-use Rattle.backward.proofs.Checking.{Passed}
 
--- the packet is in its place, counted, and tagged where it is the flow's only one
-pub stored_as : (r : Record) (lengths handles : List ℕ) (f n handle first waiting : ℕ) (waits ls hs : List ℕ)
-    (next : Record) → first ≡ (queue_of r f).first
-    → (waiting ≡ waiting_of r f) × (waits ≡ set r.queues.waiting f (waiting + 1))
-    → (ls ≡ set lengths (place_of f first waiting) n) × (hs ≡ set handles (place_of f first waiting) handle)
-    → next ≡ tagged (with r r.sum r.clock r.link r.tags
-    (queues_of r.queues.share r.queues.largest r.queues.first waits) r.turn) f
-    (cond (eqb waiting 0) (front_tag (tag_of r f) r.clock.0 (cost_to (queue_of r f)) (charge_of r.header n))
-    (tag_of r f))
-    → outcome (done []) next ls hs ≡ store_rule (state r lengths handles) f n handle
-unfolding store_rule put
-stored_as r lengths handles f n handle first waiting waits ls hs next a j p e =
-    rw (e, p.0, p.1, j.1, j.0, a, put_joined r.queues f (waiting_of r f + 1))
+module _ (r : Record) (lengths handles : List ℕ) (f n handle waiting : ℕ) (q : Queues) (ls hs : List ℕ)
+    (counted : (waiting ≡ waiting_of r f)
+    × (q ≡ queues_of r.queues.share r.queues.largest r.queues.first (set r.queues.waiting f (waiting + 1))))
+    (kept : (ls ≡ set lengths (place_of f (queue_of r f).first waiting) n)
+    × (hs ≡ set handles (place_of f (queue_of r f).first waiting) handle)) where
+  -- the record with the packet counted
+  abbrev more : Record
+  more = with r r.sum r.clock r.link r.tags q r.turn
 
-module _ (r : Record) (lengths handles : List ℕ) (f n handle : ℕ) (P : Passed r lengths handles) (reply : ArrivalReply)
-    (j : arrival_reply reply ≡ join_reply r.flows f n (queue_of r f).largest (waiting_of r f)) where
-  -- 7, 8 or 9
-  pub arrived_refused : (why : Refusal) → reply ≡ ArrivalReply.Refused why
-      → outcome (arrival_reply reply) r lengths handles ≡ arrival_rule (state r lengths handles) f n handle
-  unfolding arrival_rule
-  arrived_refused why d = P.on _ _ (rw (← j, d, (told why).says))
+  -- the packet is the flow's only one, and the flow is tagged for it
+  pub stored_first : (next : Record) → waiting ≡ 0
+      → next ≡ tagged more f (front_tag (tag_of r f) r.clock.0 (cost_to (queue_of more f)) (charge_of r.header n))
+      → outcome (done []) next ls hs ≡ store_rule (state r lengths handles) f n handle
+  unfolding store_rule put
+  stored_first next z e = rw (
+    e,
+    kept.0,
+    kept.1,
+    counted.1,
+    counted.0,
+    eq-eqb (waiting_of r f) 0 (sym counted.0 ∙ z),
+    put_joined r.queues f (waiting_of r f + 1),
+  )
 
-  module _ (d : reply ≡ ArrivalReply.Done) where
+  -- it goes behind others, and no tag changes
+  pub stored_behind : waiting ≢ 0 → outcome (done []) more ls hs ≡ store_rule (state r lengths handles) f n handle
+  unfolding store_rule put
+  stored_behind z = rw (
+    kept.0,
+    kept.1,
+    counted.1,
+    counted.0,
+    ne_eqb (waiting_of r f) 0 (λ y. z (counted.0 ∙ y)),
+    set-get_or r.tags.0 f (pos 0),
+    put_joined r.queues f (waiting_of r f + 1),
+  )
+
+-- past refusals 1 and 2
+module _ (r : Record) (lengths handles : List ℕ) (f n : ℕ) (ready : Result (Unit {0}) Refusal)
+    (said : done_reply ready ≡ ready_reply (formed r lengths) lengths handles (done [])) (u : Unit {0})
+    (e : ready ≡ Ok u) where
+  pub few_flows : r.flows ≤ 64
+  few_flows = (formed_out (raised_record r) lengths (is_ready (formed r lengths) lengths handles ready said u e).2).few
+
+  -- 7, 8 and 9
+  pub joined : (flows : ℕ) → flows ≡ r.flows → (joins : Result (Unit {0}) Refusal)
+      → done_reply joins ≡ join_reply flows f n (slice_index r.queues.largest f) (slice_index r.queues.waiting f)
+      → done_reply joins ≡ admit_reply (state r lengths handles) f n
+  joined flows same joins asked =
+      rw same at asked
+      ∙ sym (replied_on (formed r lengths) lengths handles ready said u e (joining (state r lengths handles) f n))
+
+-- what each way through the refusals gives
+pub ruleset admitting = (unready, few_flows, joined)
+
+-- an arrival by its refusals
+admitted : (s : State) (f n handle : ℕ)
+    → unless_refused (admit_reply s f n) s (store_rule s f n handle) ≡ arrival_rule s f n handle
+unfolding arrival_rule
+admitted s f n handle = checked_reply (formed s.held s.lengths) s (joining s f n) (store_rule s f n handle)
+
+module _ (r : Record) (lengths handles : List ℕ) (f n : ℕ) (admits : Result (Unit {0}) Refusal)
+    (said : done_reply admits ≡ admit_reply (state r lengths handles) f n) where
+  -- refused
+  pub arrived_refused : (handle : ℕ) (why : Refusal) → admits ≡ Err why
+      → outcome (done_reply (Err why)) r lengths handles ≡ arrival_rule (state r lengths handles) f n handle
+  arrived_refused handle why e =
+      rw (told why).says (rw (← said, e, (told why).says) at (admitted (state r lengths handles) f n handle))
+
+  module _ (u : Unit {0}) (e : admits ≡ Ok u) where
     -- what the checks leave of queue and tag
-    pub storing : (table : List ℕ) → table ≡ costs
-        → Storable r.queues f n table lengths handles × (mag (tag_of r f) < reach) × (r.clock.0 < reach)
-    storing table right =
-        let S = stored (raised_record r) f table lengths handles right P.lend P.form n (rw d at (sym j)) in
-        (S.queue, (all_near r lengths P.form).each f S.queue.flow, omega (arith, S.clock))
+    pub storing : Stored r f n lengths handles
+    storing =
+        let d = ready_done (formed r lengths) lengths handles _ (sym said ∙ ap done_reply e) in
+        let form = formed_out (raised_record r) lengths d.2 in
+        let S = stored (raised_record r) f lengths handles (d.0, d.1) form n d.3 in
+        record {
+          queue = S.queue;
+          tag = (all_near r lengths form).each f S.queue.flow;
+          clock = omega (arith, S.clock);
+        }
+
+    pub short : n ≤ 1500
+    short = storing.queue.short
 
     -- the packet is taken
-    pub arrived : (next : Record) (ls hs : List ℕ)
+    pub arrived : (handle : ℕ) (next : Record) (ls hs : List ℕ)
         → outcome (done []) next ls hs ≡ store_rule (state r lengths handles) f n handle
-        → outcome (arrival_reply reply) next ls hs ≡ arrival_rule (state r lengths handles) f n handle
-    unfolding arrival_rule
-    arrived next ls hs q = P.on _ _ (rw (← j, d) q)
+        → outcome (done []) next ls hs ≡ arrival_rule (state r lengths handles) f n handle
+    arrived handle next ls hs q = q ∙ rw (← said, e) at (admitted (state r lengths handles) f n handle)
+
+-- what each way past them gives
+pub ruleset taking = (arrived_refused, storing, short, arrived)

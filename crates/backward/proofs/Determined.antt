@@ -6,8 +6,8 @@ use contract.Lifetimes.{Lfts}
 use borrow.Fn.World.{ArgsD, ResD}
 use borrow.Fn.Kinds.{ended_of}
 use denote.Triple.Clauses.{AtExit}
-use Rattle.reply.specs.Reply.{opening_reply, arrival_reply}
-use Rattle.reply.specs.Replies.{opening_reply_one, arrival_reply_one}
+use Rattle.reply.specs.Reply.{done_reply}
+use Rattle.reply.specs.Replies.{done_reply_one}
 use Rattle.reply.specs.State.{outcome_one}
 use Rattle.uplink.specs.PickReply.{pick_reply, pick_reply_one}
 use Rattle.backward.specs.contracts.Record.opening as opening
@@ -35,7 +35,7 @@ module _ (κs : Lfts 2) where
         → (r ≡ q) × (s.1.1.1.1.0.now ≡ t.1.1.1.1.0.now)
         × (s.1.1.1.1.1.0.now ≡ t.1.1.1.1.1.0.now)
     arrival_determined e f =
-        outcome_one arrival_reply (λ next reply. record { next = next; reply = reply }) arrival_reply_one
+        outcome_one done_reply (λ next reply. record { next = next; reply = reply }) done_reply_one
         r.reply q.reply r.next q.next _ _ _ _ (e ∙ sym f)
 
 pub opening_determined : (κs : Lfts 4) (a : ArgsD opening.signature κs) (r q : ResD opening.signature κs)
@@ -43,5 +43,5 @@ pub opening_determined : (κs : Lfts 4) (a : ArgsD opening.signature κs) (r q :
     → opening_reads.Post κs a r s → opening_reads.Post κs a q t
     → (r ≡ q) × (s.1.1.1.0.now ≡ t.1.1.1.0.now) × (s.1.1.1.1.0.now ≡ t.1.1.1.1.0.now)
 opening_determined κs a r q s t e f =
-    outcome_one opening_reply (λ next reply. record { next = next; reply = reply }) opening_reply_one
+    outcome_one done_reply (λ next reply. record { next = next; reply = reply }) done_reply_one
     r.reply q.reply r.next q.next _ _ _ _ (e ∙ sym f)

@@ -1,86 +1,144 @@
 -- What each way through a pick gives, as the rule has it.
 -- Assumes nothing.
-use mathlib.Core.Path.{◌≡◌, refl, sym, ap, ◌∙◌}
-use mathlib.Core.Bool.{Bool, true, false, not, cond}
-use mathlib.Core.List.{List}
-use Prim.Native.Nat.{ℕ, ◌+◌, ◌-◌, ◌*◌, ◌%◌, ◌≤◌, ◌<◌}
-use native.Mathlib.Omega.{arith}
-use lib.Dec.{ltb}
-use lib.ListN.{get_or, set}
-use lib.Signed.{mag}
-use borrow.Author.Tests.{not-true, not-false, le-ltb, lt-ltb, ltb-true}
+use Rattle.std.specs.Prelude.{◌≡◌, refl, ℕ, ◌+◌, ◌-◌, ◌*◌, ◌%◌, ◌≤◌, ◌<◌, Bool, true, false, cond, ltb, pos, List, [], get_or, slice_index, set, Option, Some, None, Result, Ok, Err}
+use Rattle.std.specs.Int.Signed.{mag}
+use Rattle.std.proofs.Common.{sym, ap, ◌∙◌, arith, ltb-true}
+use lib.Seq.{set-get_or}
+use borrow.Author.Tests.{le-ltb, lt-ltb}
 use Rattle.below.specs.Listed.{listed, listed_here}
-use Rattle.cost.specs.Cost.{costs}
-use Rattle.cost.specs.Charge.{charge_of}
-use Rattle.reply.specs.Reply.{idle, refused, packet}
+use Rattle.cost.specs.Charge.{charge_of, link_ticks}
+use Rattle.reply.specs.Reply.{done, idle, refused, packet, done_reply}
 use Rattle.reply.specs.State.{state, outcome}
+use Rattle.reply.specs.declared.Refusal.{Refusal}
 use Rattle.queues.specs.Queue.{place_of, cost_to}
 use Rattle.queues.specs.Queues.{queues_of, put_left}
+use Rattle.queues.specs.Places.{freed_of}
 use Rattle.queues.specs.Ready.{Servable}
-use Rattle.tags.specs.Ticks.{leap_rule}
-use Rattle.tags.specs.Choice.{Smallest, turn_after, lead_by}
-use Rattle.tags.specs.Chosen.{leads, leads_same, Tagged}
+use Rattle.queues.specs.Checked.{ready_reply, checked_not, checked_past, is_ready}
+use Rattle.queues.specs.declared.Queues.{Queues}
+use Rattle.queues.specs.declared.places.Freed.{Freed}
+use Rattle.tags.specs.Ticks.{ticks, leap_rule}
+use Rattle.tags.specs.Choice.{turn_after, lead_by, found}
+use Rattle.tags.specs.Chosen.{leads, leads_same, Tagged, found_some, found_none}
+use Rattle.tags.specs.declared.LinkTicks.{LinkTicks}
 use Rattle.tags.specs.declared.ServerTicks.{ServerTicks}
-use Rattle.tags.specs.declared.choice.Lead.{Lead}
+use Rattle.tags.specs.declared.choice.Lead as told_lead
 use Rattle.tags.specs.declared.steps.Leapt.{Leapt}
+use Rattle.signs.specs.Tags as signs
 use Rattle.signs.specs.Tags.{natural, front_tag}
-use Rattle.signs.specs.Bounds.{reach}
+use Rattle.signs.specs.Bounds.{reach, Near}
 use Rattle.signs.specs.Raise.{natural_most, lowered_near}
-use Rattle.signs.specs.declared.SignedTicks.{SignedTicks}
-use Rattle.uplink.specs.Pick.{clock_limit, gone_of}
+use Rattle.signs.specs.declared.SignedTags.{SignedTags}
+use Rattle.uplink.specs.Record.{link_time}
+use Rattle.uplink.specs.Formed.{Formed, formed_out}
+use Rattle.uplink.specs.Pick.{clock_limit}
+use Rattle.uplink.specs.PickReply.{pick_reply}
 use Rattle.uplink.specs.Ready.{leaves}
-use Rattle.uplink.specs.declared.pick.Gone.{Gone}
 use Rattle.backward.specs.Record.{tag_of, queue_of, waiting_of, with, turned, tagged, put, lowered, rested}
 use Rattle.backward.specs.Raised.{raised_record}
 use Rattle.backward.specs.State.{Outcome}
+use Rattle.backward.specs.Form.{formed}
 use Rattle.backward.specs.Formed.{lowered_tag, sum_fits, all_near}
 use Rattle.backward.specs.Pick.{lead_of, leapt, chosen_record, leapt_record, Served, served, served_rule, serve_rule}
 use Rattle.backward.specs.Pick.{idle_rule, choose_rule, pick_rule}
 use Rattle.backward.specs.Ready.{Fronting, Going, Soon}
 use Rattle.backward.specs.declared.Record.{Record}
-use Rattle.backward.proofs.Checking.{Passed}
 
-module _ (r : Record) (lengths handles : List ℕ) (f : ℕ) (first waiting : ℕ) (firsts waits ls hs : List ℕ) (gone : Gone)
-    (a : (first ≡ (queue_of r f).first) × (firsts ≡ set r.queues.first f ((first + 1) % 64)))
-    (b : (waiting ≡ waiting_of r f) × (waits ≡ set r.queues.waiting f (waiting - 1)))
-    (g : (gone ≡ gone_of r.header f first r.clock.0 r.link.0 lengths handles)
-    × (ls ≡ set lengths (place_of f first 0) 0) × (hs ≡ set handles (place_of f first 0) 0)) where
-  -- the record whose front packet has gone, not yet tagged anew
-  abbrev pub left_record : Record
-  left_record =
-      with r r.sum gone.clock gone.link r.tags
-      (queues_of r.queues.share r.queues.largest firsts waits) r.turn
+-- the tags gone down and the sum gone on are a leap
+pub lowered_as : (r : Record) (tags : SignedTags) (width : ℕ)
+    → tags.0 ≡ listed (λ f. signs.lowered r.width (get_or r.tags.0 f (pos 0))) 0 64 → width ≡ r.width
+    → with r (ticks (r.sum.0 + width)) r.clock r.link tags r.queues r.turn ≡ lowered r
+unfolding lowered
+lowered_as r tags width e w =
+    rw w (ap (λ t. with r (ticks (r.sum.0 + r.width)) r.clock r.link (record { 0 = t }) r.queues r.turn) e)
 
-  -- its flow can be tagged: the clock is no further than one packet on
-  pub going_front : (table : List ℕ) → Servable r.queues r.header f table lengths handles → Going r f
-      → Fronting left_record f table
-  going_front table S G =
-      record {
+-- the leader by the tags as far as they are above zero
+module _ (r : Record) (keys : List ℕ) (k : keys ≡ listed (λ f. natural (get_or r.tags.0 f (pos 0))) 0 64)
+    (flows : ℕ) (same : flows ≡ r.flows) (few : r.flows ≤ 64) where
+  key_at : (f : ℕ) → f < 64 → get_or keys f 0 ≡ natural (tag_of r f)
+  key_at f h = rw k (listed_here (λ g. natural (tag_of r g)) 64 f 0 h)
+
+  -- none of them stands for none
+  pub keyed : Near r.tags.0 → (flows ≤ 64) × Tagged keys flows
+  keyed near = rw same (
+    few,
+    record {
+      each = λ f h. let low : f < 64 = omega (arith, h, few) in
+          omega (arith, key_at f low, natural_most (tag_of r f), near.each f low);
+    },
+  )
+
+  pub led : (choice : Option told_lead.Lead)
+      → choice ≡ found (lead_by r.turn (λ f. slice_index keys f) (λ f. slice_index r.queues.waiting f) flows)
+      → choice ≡ found (lead_of r)
+  led choice e = (rw same at e)
+      ∙ ap found (leads_same r.turn (λ f. natural (tag_of r f)) (λ f. get_or keys f 0) (waiting_of r) r.flows
+      (λ f h. key_at f (omega (arith, h, few))))
+
+-- steps 4 and 5 at flow f
+module _ (r : Record) (lengths handles : List ℕ) (f first : ℕ) (q : Queues)
+    (on : (first ≡ (queue_of r f).first)
+    × (q ≡ queues_of r.queues.share r.queues.largest (set r.queues.first f ((first + 1) % 64)) r.queues.waiting))
+    (waiting : ℕ) (p : Queues)
+    (fewer : (waiting ≡ slice_index q.waiting f)
+    × (p ≡ queues_of q.share q.largest q.first (set q.waiting f (waiting - 1))))
+    (freed : Freed) (ls hs : List ℕ)
+    (went : (freed ≡ freed_of f first lengths handles)
+    × (ls ≡ set lengths (place_of f first 0) 0)
+    × (hs ≡ set handles (place_of f first 0) 0))
+    (clock : ServerTicks) (link : LinkTicks)
+    (gone : (clock ≡ ticks (r.clock.0 + link_ticks (charge_of r.header freed.length)))
+    × (link ≡ link_time (r.link.0 + link_ticks (charge_of r.header freed.length)))) where
+  -- the record when the packet has gone, before the one behind it is tagged
+  abbrev after : Record
+  after = with r r.sum clock link r.tags p r.turn
+
+  -- that one does not overflow the tag: the clock is no further than one packet on
+  pub fronting : Servable r.queues r.header f lengths handles → Going r f → Fronting after f
+  fronting S G =
+      let short : freed.length ≤ 1500 = rw (went.0, on.0) S.short in
+      rw (fewer.1, on.1) record {
         flow = S.flow;
         share_low = S.share_low;
         share_high = S.share_high;
-        table_right = S.table_right;
         tag = G.tag;
-        clock = rw (g.0, a.0) (omega (arith, G.clock, S.header_low, S.short));
+        clock = rw gone.0 (omega (arith, short, G.clock, S.header_low));
       }
 
-  -- what is left is the rule's
-  pub served_as : (next : Record)
-      → next ≡ tagged left_record f (cond (ltb 1 waiting)
-      (front_tag (tag_of r f) gone.clock.0 (cost_to (queue_of r f)) (charge_of r.header gone.behind)) (tag_of r f))
-      → served gone.length gone.handle (state next ls hs) ≡ served_rule (state r lengths handles) f
+  -- where the flow's tag is the rule's, so is all else
+  served_as : (next : Record)
+      → next ≡ tagged after f (cond (ltb 1 (waiting_of r f))
+      (front_tag (tag_of r f) clock.0 (cost_to (queue_of r f)) (charge_of r.header freed.behind)) (tag_of r f))
+      → served freed.length freed.handle (state next ls hs) ≡ served_rule (state r lengths handles) f
   unfolding served_rule put
   served_as next e = rw (
     e,
-    g.1,
-    g.2,
-    g.0,
-    a.1,
-    b.1,
-    a.0,
-    b.0,
+    went.1,
+    went.2,
+    gone.0,
+    gone.1,
+    went.0,
+    fewer.1,
+    fewer.0,
+    on.1,
+    on.0,
     put_left r.queues f (((queue_of r f).first + 1) % 64) (waiting_of r f - 1),
   )
+
+  waits : waiting ≡ waiting_of r f
+  waits = rw on.1 at fewer.0
+
+  -- another packet comes to the front, and the flow gets its tag
+  pub served_more : (next : Record) → 1 < waiting
+      → next ≡ tagged after f (front_tag (tag_of r f) clock.0 (cost_to (queue_of after f)) (charge_of r.header freed.behind))
+      → served freed.length freed.handle (state next ls hs) ≡ served_rule (state r lengths handles) f
+  served_more next h e = served_as next (e ∙ rw (lt-ltb 1 (waiting_of r f) (omega (arith, h, waits)), fewer.1, on.1))
+
+  -- it was the last, and the tag stays
+  pub served_last : waiting ≤ 1
+      → served freed.length freed.handle (state after ls hs) ≡ served_rule (state r lengths handles) f
+  served_last h =
+      served_as after (rw (le-ltb 1 (waiting_of r f) (omega (arith, h, waits)), set-get_or r.tags.0 f (pos 0)))
 
 -- what a leap leaves as it was
 pub leapt_stays : (r : Record) (b : Bool) → let next = cond b (lowered r) r in
@@ -101,23 +159,29 @@ soon_near r f few S = go (leapt r f) refl
         rw (lowered_tag (chosen_record r f) f few)
         (lowered_near r.width (tag_of r f) (omega (arith, far)) (S.tags.each f few))
 
-module _ (r : Record) (f : ℕ) (tag : SignedTicks) (ahead : ServerTicks) (leap : Leapt) (next : Record)
-    (t : tag.0 ≡ tag_of r f) (n : ahead.0 ≡ natural tag.0) (l : leap ≡ leap_rule r.clock r.width ahead)
-    (turn : ℕ) (on : turn ≡ turn_after f) (e : next ≡ cond leap.leapt (lowered (turned r turn)) (turned r turn)) where
+-- step 3 at flow f
+module _ (r : Record) (f : ℕ) (ahead : ServerTicks) (leap : Leapt) (n : ahead.0 ≡ natural (tag_of r f))
+    (l : leap ≡ leap_rule r.clock r.width ahead) (turn : ℕ) (on : turn ≡ turn_after f) (next : Record) where
   -- the leap is the rule's
   leaps_as : leap.leapt ≡ leapt r f
   unfolding leap_rule
-  leaps_as = rw (l, n, t)
+  leaps_as = rw (l, n)
 
-  -- and so is the record after it
-  pub leapt_as : next ≡ leapt_record r f
-  leapt_as = rw (leaps_as, on) at e
+  -- and so is the record after it, or without one
+  pub leapt_so : leap.leapt ≡ true → next ≡ lowered (turned r turn)
+      → (leap.leapt ≡ leapt r f) × (next ≡ leapt_record r f)
+  leapt_so b e = (leaps_as, e ∙ rw (on, sym leaps_as ∙ b))
 
+  pub leapt_not : leap.leapt ≡ false → next ≡ turned r turn → (leap.leapt ≡ leapt r f) × (next ≡ leapt_record r f)
+  leapt_not b e = (leaps_as, e ∙ rw (on, sym leaps_as ∙ b))
+
+-- the record after it
+module _ (r next : Record) (f : ℕ) (leaps : Bool) (told_leap : (leaps ≡ leapt r f) × (next ≡ leapt_record r f)) where
   -- what was ready before the leap is ready after it
-  pub soon_going : (table lengths handles : List ℕ) → Servable r.queues r.header f table lengths handles
-      → Soon r f → Servable next.queues next.header f table lengths handles × Going next f
-  soon_going table lengths handles S D = let same = leapt_stays (chosen_record r f) (leapt r f) in
-      rw (leapt_as, same.0, same.1) (
+  pub soon_going : (lengths handles : List ℕ) → Servable r.queues r.header f lengths handles → Soon r f
+      → Servable next.queues next.header f lengths handles × Going next f
+  soon_going lengths handles S D = let same = leapt_stays (chosen_record r f) (leapt r f) in
+      rw (told_leap.1, same.0, same.1) (
         S,
         record {
           tag = soon_near r f S.flow D;
@@ -127,85 +191,79 @@ module _ (r : Record) (f : ℕ) (tag : SignedTicks) (ahead : ServerTicks) (leap 
       )
 
   -- what went is the rule's
-  pub sent_as : (lengths handles ls hs : List ℕ) (now : SignedTicks) (told : ServerTicks) (length handle : ℕ)
-      (after : Record) → now.0 ≡ tag_of next f → told.0 ≡ natural now.0
+  pub sent_as : (lengths handles ls hs : List ℕ) (told : ServerTicks) (length handle : ℕ) (after : Record)
+      → told.0 ≡ natural (tag_of next f)
       → served length handle (state after ls hs) ≡ served_rule (state next lengths handles) f
-      → outcome (packet f length handle told.0 leap.leapt after.clock.0) after ls hs
+      → outcome (packet f length handle told.0 leaps after.clock.0) after ls hs
       ≡ serve_rule (state r lengths handles) f
   unfolding serve_rule
-  sent_as lengths handles ls hs now told length handle after w d q =
+  sent_as lengths handles ls hs told length handle after d q =
       ap (λ (gone : Served). record {
-        reply = packet f gone.length gone.handle told.0 leap.leapt gone.state.held.clock.0;
+        reply = packet f gone.length gone.handle told.0 leaps gone.state.held.clock.0;
         state = gone.state;
       }) q
-      ∙ rw (d, w, leapt_as, leaps_as)
+      ∙ rw (d, told_leap.1, told_leap.0)
 
-module _ (r : Record) (lengths handles : List ℕ) (P : Passed r lengths handles) (keys : List ℕ)
-    (k : keys ≡ listed (λ f. natural (tag_of r f)) 0 64) where
-  -- the keys are the tags
-  key_at : (f : ℕ) → f < 64 → get_or keys f 0 ≡ natural (tag_of r f)
-  key_at f h = rw k (listed_here (λ g. natural (tag_of r g)) 64 f 0 h)
+-- refusals 1 and 2, and past them
+module _ (r : Record) (lengths handles : List ℕ) (ready : Result (Unit {0}) Refusal)
+    (said : done_reply ready ≡ ready_reply (formed r lengths) lengths handles (done [])) where
+  pub picked_unready : (why : Refusal) → ready ≡ Err why
+      → outcome (pick_reply (Err why)) r lengths handles ≡ pick_rule (state r lengths handles)
+  unfolding pick_rule
+  picked_unready why e =
+      checked_not (formed r lengths) lengths handles ready said why e r (choose_rule (state r lengths handles))
 
-  -- none of them stands for none
-  pub keyed : (r.flows ≤ 64) × Tagged keys r.flows
-  keyed = (
-    P.form.few,
-    record {
-      each = λ f h. let few : f < 64 = omega (arith, h, P.form.few) in
-          omega (
-            arith,
-            key_at f few,
-            natural_most (tag_of r f),
-            (all_near r lengths P.form).each f few,
-          );
-    },
-  )
+  module _ (u : Unit {0}) (e : ready ≡ Ok u) where
+    pub form : Formed (raised_record r) lengths
+    form = formed_out (raised_record r) lengths (is_ready (formed r lengths) lengths handles ready said u e).2
 
-  module _ (lead : Lead) (l : lead ≡ lead_by r.turn (λ f. get_or keys f 0) (waiting_of r) r.flows) where
-    -- the leader by the keys is the leader by the tags
-    led : lead_of r ≡ lead
-    led = sym (l ∙ leads_same r.turn (λ f. natural (tag_of r f)) (λ f. get_or keys f 0) (waiting_of r) r.flows
-        (λ f h. key_at f (omega (arith, h, P.form.few))))
+    picked_on : (o : Outcome) → o ≡ choose_rule (state r lengths handles) → o ≡ pick_rule (state r lengths handles)
+    unfolding pick_rule
+    picked_on o q =
+        q ∙ sym (checked_past (formed r lengths) lengths handles ready said u e r (choose_rule (state r lengths handles)))
 
-    -- step 1
-    pub picked_idle : (next : Record) → not lead.waits ≡ true → next ≡ rested r
-        → outcome idle next lengths handles ≡ pick_rule (state r lengths handles)
-    unfolding pick_rule choose_rule idle_rule
-    picked_idle next w e = P.on _ _ (rw (led, not-true lead.waits w, e))
+    pub leadable : (r.flows ≤ 64) × Near r.tags.0
+    leadable = (form.few, all_near r lengths form)
 
-    module _ (w : not lead.waits ≡ false) where
-      -- 10
-      pub picked_late : clock_limit ≤ r.clock.0 + r.sum.0
-          → outcome (refused 10 0) r lengths handles ≡ pick_rule (state r lengths handles)
-      unfolding pick_rule choose_rule
-      picked_late h = P.on _ _
-          (rw (led, not-false lead.waits w, le-ltb (r.clock.0 + r.sum.0) clock_limit h))
+    module _ (choice : Option told_lead.Lead) (led : choice ≡ found (lead_of r)) where
+      -- step 1
+      pub picked_idle : (next : Record) → choice ≡ None → next ≡ rested r
+          → outcome idle next lengths handles ≡ pick_rule (state r lengths handles)
+      unfolding choose_rule idle_rule
+      picked_idle next none n = picked_on _ (rw (n, found_none (lead_of r) (sym none ∙ led)))
 
-      -- the leader waits, and has the smallest tag
-      chosen : Smallest (λ f. natural (tag_of r f)) (waiting_of r) r.flows lead.flow
-      chosen = (rw led at (leads r.turn (λ f. natural (tag_of r f)) (waiting_of r) r.flows)).smallest
-          (not-false lead.waits w)
+      module _ (lead : told_lead.Lead) (some : choice ≡ Some lead) where
+        leader : ((lead_of r).waits ≡ true) × (lead.flow ≡ (lead_of r).flow) × (lead.tag ≡ (lead_of r).tag)
+        leader = found_some (lead_of r) lead (sym some ∙ led)
 
-      module _ (soon : r.clock.0 + r.sum.0 < clock_limit) where
-        -- what the checks leave of queue and tag
-        pub sending : (table : List ℕ) → table ≡ costs
-            → Servable r.queues r.header lead.flow table lengths handles × Soon r lead.flow
-        sending table right =
-            let L = leaves (raised_record r) lead.flow table lengths handles right P.lend P.form
-            chosen.counts chosen.waits soon in (
-              L.queue,
-              record {
-                tags = all_near r lengths P.form;
-                sum = sum_fits r lengths P.form;
-                width = L.width;
-                clock = omega (arith, soon);
-                link = L.link;
-              },
-            )
+        -- 10
+        pub picked_late : clock_limit ≤ r.clock.0 + r.sum.0
+            → outcome (refused 10 0) r lengths handles ≡ pick_rule (state r lengths handles)
+        unfolding choose_rule
+        picked_late h = picked_on _ (rw (leader.0, le-ltb (r.clock.0 + r.sum.0) clock_limit h))
 
-        -- the front packet goes
-        pub picked : (o : Outcome) → o ≡ serve_rule (state r lengths handles) lead.flow
-            → o ≡ pick_rule (state r lengths handles)
-        unfolding pick_rule choose_rule
-        picked o q = P.on _ _
-            (rw (led, not-false lead.waits w, lt-ltb (r.clock.0 + r.sum.0) clock_limit soon) q)
+        module _ (soon : r.clock.0 + r.sum.0 < clock_limit) where
+          -- what the checks leave of queue and tag
+          pub sending : Servable r.queues r.header lead.flow lengths handles × Soon r lead.flow
+          sending =
+              let chosen = (leads r.turn (λ f. natural (tag_of r f)) (waiting_of r) r.flows).smallest leader.0 in
+              let past = is_ready (formed r lengths) lengths handles ready said u e in
+              let L = leaves (raised_record r) (lead_of r).flow lengths handles (past.0, past.1) form chosen.counts
+              chosen.waits soon in
+              rw leader.1 (
+                L.queue,
+                record {
+                  tags = all_near r lengths form;
+                  sum = sum_fits r lengths form;
+                  width = L.width;
+                  clock = omega (arith, soon);
+                  link = L.link;
+                },
+              )
+
+          -- the front packet goes
+          pub picked : (o : Outcome) → o ≡ serve_rule (state r lengths handles) lead.flow
+              → o ≡ pick_rule (state r lengths handles)
+          unfolding choose_rule
+          picked o q = picked_on o
+              (q ∙ rw (leader.1, leader.0, lt-ltb (r.clock.0 + r.sum.0) clock_limit soon))

@@ -2,14 +2,15 @@
 -- Assumes nothing.
 use Rattle.std.specs.Prelude.{cond, [], ℕ, eqb, set}
 use Rattle.cost.specs.Charge.{charge_of}
-use Rattle.reply.specs.Reply.{done}
+use Rattle.reply.specs.Reply.{Reply, done}
 use Rattle.reply.specs.State.{outcome, unless_refused}
 use Rattle.queues.specs.Queue.{place_of, cost_to, joined}
 use Rattle.queues.specs.Places.{join_reply}
+use Rattle.queues.specs.Checked.{ready_reply}
 use Rattle.signs.specs.Tags.{front_tag}
 use Rattle.backward.specs.Record.{tag_of, queue_of, put}
 use Rattle.backward.specs.State.{State, Outcome}
-use Rattle.backward.specs.Form.{checked}
+use Rattle.backward.specs.Form.{formed, checked}
 
 -- the packet of length n is taken at flow f: "If the flow was empty, its tag becomes the larger of tag and clock, plus
 -- n × cost .. Otherwise no tag changes."
@@ -22,8 +23,14 @@ store_rule s f n handle =
     outcome (done []) (put r f (cond (eqb q.waiting 0) next (tag_of r f)) (joined q))
     (set s.lengths place n) (set s.handles place handle)
 
+-- 7, 8 and 9 at flow f
+abbrev pub joining : State → ℕ → ℕ → Reply
+joining s f n = let q = queue_of s.held f in join_reply s.held.flows f n q.largest q.waiting
+
+-- what they and the checks before them refuse: 1, 2, 7, 8, 9
+abbrev pub admit_reply : State → ℕ → ℕ → Reply
+admit_reply s f n = ready_reply (formed s.held s.lengths) s.lengths s.handles (joining s f n)
+
 -- 1, 2, 7, 8, 9
 unfoldable pub arrival_rule : State → ℕ → ℕ → ℕ → Outcome
-arrival_rule s f n handle =
-    let q = queue_of s.held f in
-    checked s (unless_refused (join_reply s.held.flows f n q.largest q.waiting) s (store_rule s f n handle))
+arrival_rule s f n handle = checked s (unless_refused (joining s f n) s (store_rule s f n handle))

@@ -9,7 +9,7 @@ use Rattle.queues.specs.Queue.{place_of, cost_to, left}
 use Rattle.queues.specs.Places.{freed_of}
 use Rattle.tags.specs.Ticks.{leaps}
 use Rattle.tags.specs.Choice.{lead_by, turn_after}
-use Rattle.tags.specs.declared.choice.Lead.{Lead}
+use Rattle.tags.specs.Choice.{Lead}
 use Rattle.signs.specs.Tags.{natural, front_tag}
 use Rattle.uplink.specs.Pick.{clock_limit}
 use Rattle.backward.specs.Record.{tag_of, queue_of, waiting_of, put, moved, turned, lowered, rested}

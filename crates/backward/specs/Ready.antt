@@ -1,20 +1,25 @@
 -- What the checks of a call leave of the tag's side where the call goes on; of the queue's side see `Ready` of the
--- crate `queues`. `Fronting`: where a packet comes to the front. `Soon`: before the leap. `Going`: after it, where the
--- packet goes.
+-- crate `queues`. `Stored`: where an arrival's packet is stored. `Fronting`: where a packet comes to the front.
+-- `Soon`: before the leap. `Going`: after it, where the packet goes.
 -- Assumes nothing.
-use Rattle.std.specs.Prelude.{◌≡◌, List, ℕ, ◌^◌, ◌≤◌, ◌<◌}
+use Rattle.std.specs.Prelude.{List, ℕ, ◌^◌, ◌≤◌, ◌<◌}
 use Rattle.std.specs.Int.Signed.{mag}
-use Rattle.cost.specs.Cost.{costs}
+use Rattle.queues.specs.Ready.{Storable}
 use Rattle.signs.specs.Bounds.{reach, Near}
 use Rattle.backward.specs.Record.{tag_of, queue_of}
 use Rattle.backward.specs.declared.Record.{Record}
 
+-- a packet of n bytes is stored at flow f
+pub record Stored (r : Record) (f n : ℕ) (lengths handles : List ℕ) : Type 0 where
+  pub queue : Storable r.queues f n lengths handles
+  pub tag : mag (tag_of r f) < reach
+  pub clock : r.clock.0 < reach
+
 -- a packet comes to the front of flow f: its tag does not overflow
-pub record Fronting (r : Record) (f : ℕ) (table : List ℕ) : Type 0 where
+pub record Fronting (r : Record) (f : ℕ) : Type 0 where
   pub flow : f < 64
   pub share_low : 1 ≤ (queue_of r f).share
   pub share_high : (queue_of r f).share ≤ 1000
-  pub table_right : table ≡ costs
   pub tag : mag (tag_of r f) < reach
   pub clock : r.clock.0 < reach
 

@@ -1,76 +1,82 @@
 // An arrival: document 01, "The three calls", with refusals 1, 2, 7, 8, 9 in this order.
-ghost use Rattle.std.specs.Prelude.{◌≡◌, [], ◌<◌};
-ghost use Rattle.std.specs.Int.Signed.{mag};
-ghost use Rattle.reply.specs.Reply.{done, arrival_reply};
+ghost use Rattle.std.specs.Prelude.{◌≡◌, []};
+ghost use Rattle.reply.specs.Reply.{done, done_reply};
 ghost use Rattle.reply.specs.State.{state, outcome};
-ghost use Rattle.queues.specs.Ready.{Storable};
-ghost use Rattle.signs.specs.Bounds.{reach};
-ghost use Rattle.backward.specs.Record.{tag_of};
-ghost use Rattle.backward.specs.Arrival.{store_rule, arrival_rule};
+ghost use Rattle.backward.specs.Arrival.{admit_reply, store_rule, arrival_rule};
+ghost use Rattle.backward.specs.Ready.{Stored};
 
-use crate::{Arrived, Record, form};
-use reply::{ArrivalReply, Refusal};
+use crate::{Arrived, Record};
+use reply::{Called, Refusal};
 
 impl Record {
-    // The packet goes behind the flow's last one. Where the flow was empty its tag becomes the larger of tag and clock,
-    // plus what the packet is charged.
-    fn stored(
-        mut self,
-        table: &[u32; 1000],
-        flow: u32,
-        bytes: u16,
-        handle: u32,
-        lengths: &mut [u16],
-        handles: &mut [u32],
-    ) -> Record
-        requires { Storable self.queues flow bytes table.now lengths.old handles.old
-            × (mag (tag_of self flow) < reach) × (self.clock.0 < reach) }
-        ensures { outcome (done []) result lengths.new handles.new
-            ≡ store_rule (state self lengths.old handles.old) flow bytes handle }
-    {
-        let first = queues::field(&self.queues.first, flow);
-        let waiting = queues::join(&mut self.queues.waiting, flow);
-        queues::store(flow, first, waiting, bytes, handle, lengths, handles);
-        self.fronted(table, flow, bytes, waiting == 0)
-    }
-
     // A packet of `length` bytes, known to the caller by `handle`, comes to `flow`.
     pub fn arrival(
-        self,
+        mut self,
         flow: u32,
         length: u32,
         handle: u32,
         lengths: &mut [u16],
         handles: &mut [u32],
     ) -> Arrived
-        ensures exact { outcome (arrival_reply result.reply) result.next
+        ensures exact { outcome (done_reply result.reply) result.next
             lengths.new handles.new
             ≡ arrival_rule (state self lengths.old handles.old) flow length handle }
     {
-        let table = cost::table();
-        if !queues::are_lent(lengths, handles) {
-            return Arrived {
-                next: self,
-                reply: ArrivalReply::Refused(Refusal::Memory),
-            };
+        let reply = self.take(flow, length, handle, lengths, handles);
+        Called { next: self, reply }
+    }
+
+    // The packet is stored where nothing refuses it.
+    #[tactic(auto, using(crate::proofs::Arriving::taking))]
+    fn take(
+        &mut self,
+        flow: u32,
+        length: u32,
+        handle: u32,
+        lengths: &mut [u16],
+        handles: &mut [u32],
+    ) -> Result<(), Refusal>
+        ensures { outcome (done_reply result) self.new lengths.new handles.new
+            ≡ arrival_rule (state self.old lengths.old handles.old) flow length handle }
+    {
+        self.admits(flow, length, lengths, handles)?;
+        self.store(flow, length as u16, handle, lengths, handles);
+        Ok(())
+    }
+
+    // Refusals 1, 2, 7, 8 and 9.
+    #[tactic(auto, using(crate::proofs::Arriving::admitting))]
+    fn admits(
+        &self,
+        flow: u32,
+        length: u32,
+        lengths: &[u16],
+        handles: &[u32],
+    ) -> Result<(), Refusal>
+        ensures { done_reply result ≡ admit_reply (state self.now lengths.now handles.now) flow length }
+    {
+        self.ready(lengths, handles)?;
+        self.queues.admits(u32::from(self.flows), flow, length)
+    }
+
+    // The packet goes behind the flow's last one. Where it is the flow's only one, the flow is tagged for it.
+    fn store(
+        &mut self,
+        flow: u32,
+        bytes: u16,
+        handle: u32,
+        lengths: &mut [u16],
+        handles: &mut [u32],
+    )
+        requires { Stored self.old flow bytes lengths.old handles.old }
+        ensures { outcome (done []) self.new lengths.new handles.new
+            ≡ store_rule (state self.old lengths.old handles.old) flow bytes handle }
+    {
+        let first = self.queues.first[flow as usize];
+        let waiting = self.queues.join(flow);
+        queues::store(flow, first, waiting, bytes, handle, lengths, handles);
+        if waiting == 0 {
+            self.tag_front(flow, bytes);
         }
-        if !form::is_formed(&table, self, lengths) {
-            return Arrived {
-                next: self,
-                reply: ArrivalReply::Refused(Refusal::Form),
-            };
-        }
-        let reply = queues::arrival_reply(
-            self.flows as u32,
-            flow,
-            length,
-            &self.queues.largest,
-            &self.queues.waiting,
-        );
-        if let ArrivalReply::Done = reply {
-            let next = self.stored(&table, flow, length as u16, handle, lengths, handles);
-            return Arrived { next, reply };
-        }
-        Arrived { next: self, reply }
     }
 }

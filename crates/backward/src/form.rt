@@ -1,44 +1,57 @@
-// The form test: with the sum added to clock and tags the record is judged by document 01's form. Any record may be
-// handed in, and nothing overflows: the sum is bounded before it is added to anything.
-ghost use Rattle.std.specs.Prelude.{◌≡◌, length};
-ghost use Rattle.cost.specs.Cost.{costs};
+// The form test, and refusals 1 and 2, with which every arrival and pick begins: with the sum added to clock and tags
+// the record is judged by document 01's form. Any record may be handed in, and nothing overflows: the sum is bounded
+// before it is added to anything.
+ghost use Rattle.std.specs.Prelude.{◌≡◌, ◌+◌, ◌^◌, ◌<◌, [], length};
+ghost use Rattle.reply.specs.Reply.{done, done_reply};
+ghost use Rattle.queues.specs.Checked.{ready_reply};
+ghost use Rattle.backward.specs.Raised.{raised_record};
 ghost use Rattle.backward.specs.Form.{formed};
 
 use crate::Record;
+use reply::Refusal;
 use tags::ServerTicks;
+use uplink::CLOCK_END;
 
-// Clock and sum together are below this: document 02 a)'s 2^62 + 1,127,206,080.
-const CLOCK_END: u64 = 4611686019554593984;
+impl Record {
+    // The first engine's record: this one with the sum added to clock and tags.
+    fn raised(&self) -> uplink::Record
+        requires { self.now.clock.0 + self.now.sum.0 < 2 ^ 63 }
+        ensures { result ≡ raised_record self.now }
+    {
+        uplink::Record {
+            flows: self.flows,
+            header: self.header,
+            width: self.width,
+            clock: ServerTicks(self.clock.0 + self.sum.0),
+            link: self.link,
+            tags: self.tags.raised(self.sum),
+            queues: self.queues,
+            turn: self.turn,
+        }
+    }
 
-// The record is well formed, with this memory of lengths.
-pub(crate) fn is_formed(table: &[u32; 1000], r: Record, lengths: &[u16]) -> bool
-    requires { (length lengths.now ≡ 4096) × (table.now ≡ costs) }
-    ensures { result ≡ formed r lengths.now }
-{
-    let sum = r.sum;
-    let bare = r.clock;
-    if CLOCK_END <= sum.0 {
-        return false;
+    // The record is well formed, with this memory of lengths: clock and sum together are below the clock's end too.
+    #[tactic(auto, using(crate::proofs::Checking::checking))]
+    pub(crate) fn is_formed(&self, lengths: &[u16]) -> bool
+        requires { length lengths.now ≡ 4096 }
+        ensures { result ≡ formed self.now lengths.now }
+    {
+        self.sum.0 < CLOCK_END
+            && self.clock.0 < CLOCK_END - self.sum.0
+            && self.raised().is_formed(lengths)
     }
-    if CLOCK_END - sum.0 <= bare.0 {
-        return false;
+
+    // Refusals 1 and 2.
+    pub(crate) fn ready(&self, lengths: &[u16], handles: &[u32]) -> Result<(), Refusal>
+        ensures { done_reply result
+            ≡ ready_reply (formed self.now lengths.now) lengths.now handles.now (done []) }
+    {
+        if !queues::are_lent(lengths, handles) {
+            return Err(Refusal::Memory);
+        }
+        if !self.is_formed(lengths) {
+            return Err(Refusal::Form);
+        }
+        Ok(())
     }
-    let together = bare.0 + sum.0;
-    let clock = ServerTicks(together);
-    let tags = signs::raised_tags(&r.tags.0, sum);
-    uplink::is_formed(
-        table,
-        r.flows,
-        r.header,
-        r.width,
-        clock,
-        r.link,
-        &tags,
-        &r.queues.share,
-        &r.queues.largest,
-        &r.queues.first,
-        &r.queues.waiting,
-        r.turn,
-        lengths,
-    )
 }

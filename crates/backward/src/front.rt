@@ -1,5 +1,5 @@
 // A packet comes to the front of its flow, and the flow gets its tag: source 000, equation 3.
-ghost use Rattle.std.specs.Prelude.{◌≡◌, cond};
+ghost use Rattle.std.specs.Prelude.{◌≡◌};
 ghost use Rattle.cost.specs.Charge.{charge_of};
 ghost use Rattle.queues.specs.Queue.{cost_to};
 ghost use Rattle.signs.specs.Tags.{front_tag};
@@ -7,28 +7,18 @@ ghost use Rattle.backward.specs.Record.{tag_of, queue_of, tagged};
 ghost use Rattle.backward.specs.Ready.{Fronting};
 
 use crate::Record;
+use signs::SignedTicks;
 
 impl Record {
-    // Where a packet of `bytes` comes to the front, the flow's tag becomes the larger of tag and clock, plus what the
-    // packet is charged. Otherwise no tag changes.
-    pub(crate) fn fronted(
-        mut self,
-        table: &[u32; 1000],
-        flow: u32,
-        bytes: u16,
-        comes: bool,
-    ) -> Record
-        requires { Fronting self flow table.now }
-        ensures { result ≡ tagged self flow (cond comes (front_tag (tag_of self flow) self.clock.0
-            (cost_to (queue_of self flow)) (charge_of self.header bytes)) (tag_of self flow)) }
+    // The flow's tag becomes the larger of tag and clock, plus what the packet of `bytes` is charged.
+    pub(crate) fn tag_front(&mut self, flow: u32, bytes: u16)
+        requires { Fronting self.old flow }
+        ensures { self.new ≡ tagged self.old flow (front_tag (tag_of self.old flow) self.old.clock.0
+            (cost_to (queue_of self.old flow)) (charge_of self.old.header bytes)) }
     {
-        if !comes {
-            return self;
-        }
-        let cost = cost::cost_at(table, queues::field(&self.queues.share, flow));
-        let tag = signs::tag_at(&self.tags.0, flow);
-        let next = signs::front_tag(tag, self.clock, self.header, bytes, cost);
-        signs::put_tag(&mut self.tags.0, flow, next);
-        self
+        let at = flow as usize;
+        let cost = cost::cost_at(self.queues.share[at]);
+        let tag = SignedTicks(self.tags.0[at]);
+        self.tags.0[at] = signs::front_tag(tag, self.clock, self.header, bytes, cost).0;
     }
 }

@@ -3,7 +3,8 @@
 // with link time and a flow with nothing waiting may have a tag below zero. The sum of the widths leapt is kept: with
 // it added to clock and tags the record is the first engine's (crate `equal`).
 // Bookings, queues and memories are the crate `queues`, signed tags the crate `signs`. The three calls take any input
-// at all and end with a reply or one of document 01's ten numbered refusals.
+// at all and end with a reply or one of document 01's ten numbered refusals. Their text is this engine's own, and not
+// one of a trait's: it is there to be read beside the first engine's.
 #![tactic(auto)]
 
 ghost use Rattle.std.specs.Prelude.{◌≡◌};
@@ -38,33 +39,21 @@ pub struct Record {
     pub turn: u64,
 }
 
-// The record that an opening made, or the blank one, with the reply.
-#[derive(Drop)]
-pub struct Opened {
-    pub next: Record,
-    pub reply: reply::OpeningReply,
-}
+// What an opening gives: the record that it made, or the blank one, with the reply.
+pub type Opened = reply::Called<Record, ()>;
 
-// The record after an arrival, with the reply.
-#[derive(Drop)]
-pub struct Arrived {
-    pub next: Record,
-    pub reply: reply::ArrivalReply,
-}
+// What an arrival gives: the record after it, with the reply.
+pub type Arrived = reply::Called<Record, ()>;
 
-// The record after a pick, with the reply: tag and clock are this engine's own, the tag after the lowering.
-#[derive(Drop)]
-pub struct Picked {
-    pub next: Record,
-    pub reply: uplink::PickReply,
-}
+// What a pick gives: the record after it, with the reply: tag and clock are this engine's own, the tag after the
+// lowering.
+pub type Picked = reply::Called<Record, Option<uplink::Packet>>;
 
 impl Record {
     // All zeros: the record before an opening. It is not well formed.
     pub fn blank() -> Record
         ensures { result ≡ blank }
     {
-        let none = uplink::Record::blank();
-        opening::unleapt(none)
+        opening::unleapt(uplink::Record::blank())
     }
 }

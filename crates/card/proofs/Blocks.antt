@@ -8,14 +8,13 @@ use lib.ListN.{length, get_or, set, replicate}
 use lib.Seq.{take_at, take_all}
 use borrow.Rule.Slice.PartMut.{mid_of, put_mid}
 use Rattle.below.specs.Listed.{listed}
-use Rattle.below.specs.Copied.{copied_none, copied_more, copied_part, copied_all}
+use Rattle.below.specs.Copied.{copied_none, copied_more, copied_part, copied_length, copied_all}
 use Rattle.below.specs.Joined.{Joining, joining_none, joining_more, joining_all}
-use Rattle.below.specs.Made.{Made, made_none, made_more}
 use Rattle.fields.specs.Bytes.{bytes_of, number_of, part}
-use Rattle.fields.specs.Laws.{copied_number}
+use Rattle.fields.specs.Laws.{copied_number, part_length}
 use Rattle.sums.specs.Sums.{sums_of}
 use Rattle.sums.specs.declared.Sums.{Sums}
-use Rattle.entries.specs.Entry.{entry_bytes, entry_of, no_entry}
+use Rattle.entries.specs.Entry.{entry_bytes, no_entry}
 use Rattle.entries.specs.Laws.{entry_sixteen}
 use Rattle.entries.specs.declared.Entry.{Entry}
 use Rattle.card.specs.declared.Block.{Block}
@@ -41,32 +40,35 @@ module _ (entries : List Entry) (all : length entries ≡ 31) (bytes0 : List ℕ
 
 module _ (b : Block) (all : length b.entries ≡ 31) (bytes : List ℕ) where
   -- bytes 0 to 507, as they are left
-  pub body_written : {a z d : List ℕ} → length bytes ≡ 508
-      → a ≡ bytes_of (length (mid_of 0 4 bytes)) b.number
-      → z ≡ bytes_of (length (mid_of 5 7 (set (put_mid 0 4 bytes a) 4 b.count))) 0
+  pub body_written : {number : ℕ} {a z d : List ℕ} → length bytes ≡ 508 → number ≡ b.number
+      → a ≡ bytes_of (length (mid_of 0 4 bytes)) number
+      → z ≡ replicate (length (mid_of 5 7 (set (put_mid 0 4 bytes a) 4 b.count))) 0
       → d ≡ entries_bytes b.entries
       → put_mid 12 496 (put_mid 5 7 (set (put_mid 0 4 bytes a) 4 b.count) z) d ≡ body_bytes b
   unfolding body_bytes bytes_of
-  body_written {a} {z} {d} h p q r =
+  body_written {number} {a} {z} {d} h m p q r =
       let from : List ℕ = body_bytes b in
       let long = body_size b all in
       let same : length from ≡ length bytes = long ∙ sym h in
-      let four = copied_number from bytes same 0 4 bytes a b.number (omega arith) p refl
-      (copied_none from bytes same) in
+      let four = copied_number from bytes same 0 4 bytes a b.number (omega arith)
+      (p ∙ ap (bytes_of (length (mid_of 0 4 bytes))) m) refl (copied_none from bytes same) in
       let five = copied_more from bytes same 4 _ 0 (omega arith) four in
-      let twelve = copied_number from bytes same 5 7 _ z 0 (omega arith) q refl five in
+      let wide = copied_length from bytes same 5 _ (omega arith) five in
+      let seven = part_length (set (put_mid 0 4 bytes a) 4 b.count) 5 7 (omega arith) in
+      let twelve = copied_part from bytes same 5 7 _ z (omega arith) (q ∙ ap (λ n. replicate n 0) seven) five in
       let last : entries_bytes b.entries ≡ part from 12 496 =
       sym (take_all 496 (entries_bytes b.entries) (omega (arith, entries_size b all))) in
       copied_all from bytes same 508 _ (omega arith) (omega arith)
       (copied_part from bytes same 12 496 _ d (omega arith) (r ∙ last) twelve)
 
   -- all 512 bytes, as they are left
-  pub block_written : {body one two : List ℕ} {s : Sums} → length bytes ≡ 512 → body ≡ body_bytes b
+  pub block_written : {body one two : List ℕ} {s : Sums} {first second : ℕ} → length bytes ≡ 512 → body ≡ body_bytes b
       → s ≡ sums_of (part (put_mid 0 508 bytes body) 0 508)
-      → one ≡ bytes_of (length (mid_of 508 2 (put_mid 0 508 bytes body))) s.first
-      → two ≡ bytes_of (length (mid_of 510 2 (put_mid 508 2 (put_mid 0 508 bytes body) one))) s.second
+      → first ≡ s.first → second ≡ s.second
+      → one ≡ bytes_of (length (mid_of 508 2 (put_mid 0 508 bytes body))) first
+      → two ≡ bytes_of (length (mid_of 510 2 (put_mid 508 2 (put_mid 0 508 bytes body) one))) second
       → put_mid 510 2 (put_mid 508 2 (put_mid 0 508 bytes body) one) two ≡ block_bytes b
-  block_written {body} {one} {two} {s} h p e q r =
+  block_written {body} {one} {two} {s} h p e i j q r =
       let from : List ℕ = block_bytes b in
       let long = block_size b all in
       let same : length from ≡ length bytes = long ∙ sym h in
@@ -75,23 +77,16 @@ module _ (b : Block) (all : length b.entries ≡ 31) (bytes : List ℕ) where
       let t = e ∙ ap sums_of m in
       let filled = copied_part from bytes same 0 508 bytes body (omega arith) (p ∙ sym (block_body b all))
       (copied_none from bytes same) in
-      let first = copied_number from bytes same 508 2 _ one s.first (omega arith) q
+      let half = copied_number from bytes same 508 2 _ one s.first (omega arith) (rw i at q)
       (ap (λ (x : Sums). bytes_of 2 x.first) t ∙ sym (block_first b all)) filled in
       copied_all from bytes same 512 _ (omega arith) (omega arith)
-      (copied_number from bytes same 510 2 _ two s.second (omega arith) r
-      (ap (λ (x : Sums). bytes_of 2 x.second) t ∙ sym (block_second b all)) first)
+      (copied_number from bytes same 510 2 _ two s.second (omega arith) (rw j at r)
+      (ap (λ (x : Sums). bytes_of 2 x.second) t ∙ sym (block_second b all)) half)
 
 module _ (bytes : List ℕ) where
-  pub read_none : {none : Entry} → none ≡ no_entry → Made (entry_at bytes) no_entry 31 0 (replicate 31 none)
-  read_none e = rw e (made_none (entry_at bytes) no_entry 31)
-
-  -- one entry more was read
-  pub read_more : (k : ℕ) (entries : List Entry) (e : Entry) → Made (entry_at bytes) no_entry 31 k entries → k < 31
-      → e ≡ entry_of (part bytes (12 + 16 * k) (12 + 16 * k + 16 - (12 + 16 * k)))
-      → Made (entry_at bytes) no_entry 31 (k + 1) (set entries k e)
-  read_more k entries e m h q =
-      let w : 12 + 16 * k + 16 - (12 + 16 * k) ≡ 16 = omega arith in
-      made_more (entry_at bytes) no_entry 31 k entries m e h (rw w at q)
+  -- what is lent of place k is its sixteen bytes
+  pub lent_entry : (k : ℕ) → part bytes (12 + 16 * k) (12 + 16 * k + 16 - (12 + 16 * k)) ≡ part bytes (12 + 16 * k) 16
+  lent_entry k = let w : 12 + 16 * k + 16 - (12 + 16 * k) ≡ 16 = omega arith in rw w
 
   -- what is made of number, count and entries
   pub block_told : {number : ℕ} {entries : List Entry} → number ≡ number_of (part bytes 0 4)

@@ -1,7 +1,7 @@
 -- Writer and reader undo each other, document 02 d): "Writer and reader are wanted, each undoing the other." What is
 -- assumed of a content (`BlockFits`) and of bytes (`Small`) is what their types give: every number fits its bytes.
 -- Assumes nothing.
-use Rattle.std.specs.Prelude.{◌≡◌, Bool, true, false, ◌&&◌, ℕ, ◌+◌, ◌*◌, ◌≤◌, ◌<◌, eqb, length, take}
+use Rattle.std.specs.Prelude.{◌≡◌, Bool, true, false, ◌&&◌, ℕ, ◌+◌, ◌*◌, ◌≤◌, ◌<◌, Result, eqb, length, take}
 use Rattle.std.proofs.Math.Path.{refl, sym, ap, ap₂}
 use Rattle.std.proofs.Common.{◌∙◌, zero-add, arith, drop-cons, ext_get_or}
 use Rattle.std.proofs.Math.Bool.{cond}
@@ -19,7 +19,8 @@ use Rattle.sums.specs.Laws.{first_fits, second_fits}
 use Rattle.entries.specs.Entry.{entry_bytes, entry_of, no_entry}
 use Rattle.entries.specs.Laws.{entry_sixteen, entry_small, entry_read, entry_again}
 use Rattle.card.specs.declared.Block.{Block}
-use Rattle.card.specs.declared.Reading.{Reading}
+use Rattle.card.specs.declared.Refusal.{Refusal}
+use Rattle.card.specs.declared.Refusal.TheVariants.{Size, Sums, Field}
 use Rattle.card.specs.Block.{entries_bytes, body_bytes, sum_bytes, block_bytes, entry_at, block_of, head_blank}
 use Rattle.card.specs.Block.{block_legal, BlockFits}
 use Rattle.card.specs.Card.{accepted, refused, read_rule, written, write_rule}
@@ -58,11 +59,11 @@ module _ (b : Block) (f : BlockFits b) where
   }
 
   -- a content's 512 bytes are read as that content where it is within the rules, and refused with 12 where it is not
-  pub read_bytes : read_rule (block_bytes b) ≡ cond (block_legal b) (accepted b) (refused 12)
+  pub read_bytes : read_rule (block_bytes b) ≡ cond (block_legal b) (accepted b) (refused Field)
   unfolding read_rule
   read_bytes =
       simp (eq-eqb _ _ (block_size b f.all), sums_written, head_written)
-      (ap (λ c. cond (block_legal c) (accepted c) (refused 12)) content_read)
+      (ap (λ c. cond (block_legal c) (accepted c) (refused Field)) content_read)
 
   -- "each undoing the other": what was written is read as the same number and entries
   pub read_written : (room : List ℕ) → length room ≡ 512 → block_legal b ≡ true
@@ -120,18 +121,23 @@ block_small bytes h s =
     }
 
 -- a test whose other branch is a refusal has held
-passed : (t : Bool) (x y : Reading) → (y.refusal ≡ 0 → ⊥) → (cond t x y).refusal ≡ 0 → t ≡ true
-passed true x y n e = refl
-passed false x y n e = absurd (n e)
+passed : (t : Bool) (x : Result Block Refusal) (refusal : Refusal) (b : Block) → cond t x (refused refusal) ≡ accepted b
+    → t ≡ true
+passed true x refusal b e = refl
+passed false x refusal b e = cc
+
+-- and an acceptance has one content
+content_one : (b c : Block) → accepted b ≡ accepted c → b ≡ c
+content_one b c e = cc
 
 -- the reader's rule from its second test on, and from its third
-abbrev second : List ℕ → Reading
+abbrev second : List ℕ → Result Block Refusal
 second bytes =
     cond (sums_right bytes)
-    (cond (head_blank bytes && block_legal (block_of bytes)) (accepted (block_of bytes)) (refused 12)) (refused 11)
+    (cond (head_blank bytes && block_legal (block_of bytes)) (accepted (block_of bytes)) (refused Field)) (refused Sums)
 
-abbrev third : List ℕ → Reading
-third bytes = cond (head_blank bytes && block_legal (block_of bytes)) (accepted (block_of bytes)) (refused 12)
+abbrev third : List ℕ → Result Block Refusal
+third bytes = cond (head_blank bytes && block_legal (block_of bytes)) (accepted (block_of bytes)) (refused Field)
 
 -- what acceptance says
 pub record Accepted (bytes : List ℕ) (b : Block) : Type 0 where
@@ -144,15 +150,13 @@ pub record Accepted (bytes : List ℕ) (b : Block) : Type 0 where
 pub read_accepted : (bytes : List ℕ) (b : Block) → read_rule bytes ≡ accepted b → Accepted bytes b
 unfolding read_rule
 read_accepted bytes b e =
-    let number : (r : Reading) → r ≡ accepted b → r.refusal ≡ 0 = λ r q. ap (λ (x : Reading). x.refusal) q in
-    let t = passed (eqb (length bytes) 512) (second bytes) (refused 1) (λ q. omega arith) (number _ e) in
+    let t = passed (eqb (length bytes) 512) (second bytes) Size b e in
     let e' : second bytes ≡ accepted b = simp t at e in
-    let u = passed (sums_right bytes) (third bytes) (refused 11) (λ q. omega arith) (number _ e') in
+    let u = passed (sums_right bytes) (third bytes) Sums b e' in
     let e'' : third bytes ≡ accepted b = simp u at e' in
-    let v = passed (head_blank bytes && block_legal (block_of bytes)) (accepted (block_of bytes)) (refused 12)
-    (λ q. omega arith) (number _ e'') in
+    let v = passed (head_blank bytes && block_legal (block_of bytes)) (accepted (block_of bytes)) Field b e'' in
     let both = both_true (head_blank bytes) (block_legal (block_of bytes)) v in
-    let told : block_of bytes ≡ b = ap (λ (r : Reading). r.block) (simp v at e'') in
+    let told : block_of bytes ≡ b = content_one (block_of bytes) b (simp v at e'') in
     record {
       size = eqb-true _ _ t;
       sums = u;
@@ -176,7 +180,7 @@ written_read bytes room b s e h =
 
 -- an accepted block has one content
 pub one_content : (bytes : List ℕ) (b c : Block) → read_rule bytes ≡ accepted b → read_rule bytes ≡ accepted c → b ≡ c
-one_content bytes b c e f = ap (λ (r : Reading). r.block) (sym e ∙ f)
+one_content bytes b c e f = content_one b c (sym e ∙ f)
 
 -- and a content one block
 pub one_block : (bytes others : List ℕ) (b : Block) → Small bytes → Small others → read_rule bytes ≡ accepted b

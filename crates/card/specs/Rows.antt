@@ -12,7 +12,7 @@ use Rattle.entries.specs.Legal.{kind_of, packet_legal, rest_blank, entry_legal, 
 use Rattle.entries.specs.declared.Entry.{Entry}
 use Rattle.card.specs.declared.Block.{Block}
 use Rattle.card.specs.Block.{body_bytes, sum_bytes, block_bytes, block_of, entry_may, block_legal}
-use Rattle.card.specs.Card.{read_rule, write_rule}
+use Rattle.card.specs.Card.{answer_of, read_rule, write_rule}
 
 -- document 01's example, P1 to P4: two arrivals of 100 bytes, their picks and an Idle
 abbrev pub worked : Block
@@ -39,7 +39,7 @@ changed place byte = summed (set (body_bytes worked) place byte)
 
 -- what the reader answers, beside what it has to answer
 abbrev pub row : ℕ → List ℕ → Bool
-row number bytes = eqb (read_rule bytes).refusal number
+row number bytes = eqb (answer_of (read_rule bytes)) number
 
 -- every row holds
 unfoldable pub all : List Bool → Bool

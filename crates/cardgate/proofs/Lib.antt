@@ -1,7 +1,6 @@
--- `Tests`: whether the words of a content fit. `Words`: how they are read and written. `Ways`: what each way through a
--- call gives. `Refusals`: what a refused call leaves. `Determined`: any two outcomes of a call are equal.
+-- `Tests`: how the words of a content are read, where they fit. `Words`: how they are written. `Refusals`: what a refused
+-- call leaves. `Determined`: any two outcomes of a call are equal.
 mod Tests
 mod Words
-mod Ways
 pub mod Refusals
 pub mod Determined

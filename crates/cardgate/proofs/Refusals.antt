@@ -7,9 +7,12 @@ use mathlib.Core.List.{List}
 use Prim.Native.Nat.{ℕ}
 use lib.Dec.{eqb}
 use lib.ListN.{length}
+use Rattle.std.proofs.Common.{Result, Ok, Err}
+use Rattle.card.specs.declared.Block.{Block}
+use Rattle.card.specs.declared.Refusal.{Refusal}
 use Rattle.card.specs.Block.{block_bytes, block_legal}
 use Rattle.card.specs.Card.{Written, written, write_rule, read_rule}
-use Rattle.cardgate.specs.Content.{content_words, content_in, content_fit}
+use Rattle.cardgate.specs.Content.{content_in, content_fit}
 use Rattle.cardgate.specs.Calls.{card_write, Told, told, tell_content, card_read}
 
 -- a writing that is refused, by this test or past it, leaves the bytes as they came
@@ -37,11 +40,15 @@ same_words : (test : Bool) (number : ℕ) (content : List ℕ) (on : Told)
 same_words true number content on k r = k r
 same_words false number content on k r = refl
 
+-- what is told of an outcome: the words change only where it is accepted
+same_told : (outcome : Result Block Refusal) (content : List ℕ) → ((tell_content outcome content).answer ≡ 0 → ⊥)
+    → (tell_content outcome content).content ≡ content
+same_told (Ok block) content n = absurd (n refl)
+same_told (Err refusal) content n = refl
+
 pub refused_read : (bytes content : List ℕ) → ((card_read bytes content).answer ≡ 0 → ⊥)
     → (card_read bytes content).content ≡ content
 unfolding card_read
 refused_read bytes content =
-    let found = read_rule bytes in
-    same_words (eqb (length content) 157) 101 content (tell_content found content)
-    (same_words (eqb found.refusal 0) found.refusal content (told 0 (content_words found.block))
-    (λ n. absurd (n refl)))
+    same_words (eqb (length content) 157) 101 content (tell_content (read_rule bytes) content)
+    (same_told (read_rule bytes) content)

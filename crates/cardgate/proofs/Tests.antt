@@ -1,84 +1,64 @@
--- Whether the words of a content fit their fields: each way through the tests, a turn of the loop over the entries, and
--- what a test that was passed gives.
+-- Whether the words of a content fit their fields: a turn of the loop over the entries, and what it finds.
 -- Assumes nothing.
-use mathlib.Core.Path.{◌≡◌, sym, ap, ◌∙◌}
-use mathlib.Core.Bool.{Bool, true, false, not, ◌&&◌}
-use mathlib.Core.List.{List}
-use Prim.Native.Nat.{ℕ, ◌+◌, ◌*◌, ◌-◌, ◌^◌, ◌≤◌, ◌<◌}
-use native.Mathlib.Omega.{arith}
-use lib.Dec.{ltb}
-use lib.ListN.{length, get_or}
-use borrow.Author.Tests.{lt-ltb, le-ltb, not-false}
-use Rattle.below.specs.Below.{all_below, all_below_none, all_below_turn, all_below_at}
+use Rattle.std.proofs.Common.{◌≡◌, refl, sym, ap, ap₂, ◌∙◌, arith, Bool, true, false, ◌&&◌, List, ℕ, ◌+◌, ◌*◌, ◌-◌, ◌≤◌, ◌<◌, Option, Some, None, set, replicate}
+use Rattle.below.specs.Below.{all_below, all_below_none, all_below_more, all_below_at}
+use Rattle.below.specs.Listed.{listed}
+use Rattle.below.specs.Made.{Made, made_none, made_more, made_all}
+use Rattle.below.specs.Truth.{true_false}
 use Rattle.fields.specs.Bytes.{part}
-use Rattle.cardgate.specs.Content.{place_words, entry_fit, place_fit, content_fit}
-use Rattle.cardgate.specs.Fitting.{Fitting, fitting, FittingContent, fitting_content}
-
-module _ (words : List ℕ) where
-  pub fit_kind : 2 ^ 8 ≤ get_or words 0 0 → false ≡ entry_fit words
-  unfolding entry_fit
-  fit_kind h = simp (le-ltb _ _ h)
-
-  module _ (k : get_or words 0 0 < 2 ^ 8) where
-    pub fit_flow : 2 ^ 8 ≤ get_or words 1 0 → false ≡ entry_fit words
-    unfolding entry_fit
-    fit_flow h = simp (lt-ltb _ _ k, le-ltb _ _ h)
-
-    pub fit_length : get_or words 1 0 < 2 ^ 8 → 2 ^ 16 ≤ get_or words 2 0 → false ≡ entry_fit words
-    unfolding entry_fit
-    fit_length f h = simp (lt-ltb _ _ k, lt-ltb _ _ f, le-ltb _ _ h)
-
-    pub fit_handle : get_or words 1 0 < 2 ^ 8 → get_or words 2 0 < 2 ^ 16
-        → ltb (get_or words 3 0) (2 ^ 32) ≡ entry_fit words
-    unfolding entry_fit
-    fit_handle f l = simp (lt-ltb _ _ k, lt-ltb _ _ f, lt-ltb _ _ l)
-
-  pub fit_number : 2 ^ 32 ≤ get_or words 0 0 → false ≡ content_fit words
-  unfolding content_fit
-  fit_number h = simp (le-ltb _ _ h)
-
-  module _ (n : get_or words 0 0 < 2 ^ 32) where
-    pub fit_count : 2 ^ 8 ≤ get_or words 1 0 → false ≡ content_fit words
-    unfolding content_fit
-    fit_count h = simp (lt-ltb _ _ n, le-ltb _ _ h)
-
-    pub fit_entries : {r : Bool} → get_or words 1 0 < 2 ^ 8 → r ≡ all_below (place_fit words) 31 → r ≡ content_fit words
-    unfolding content_fit
-    fit_entries h q = simp (lt-ltb _ _ n, lt-ltb _ _ h) q
-
--- the words of the entries before this one have been tested
-pub record Tested (words : List ℕ) (fit : Bool) (place : ℕ) : Type 0 where
-  pub within : place ≤ 31
-  pub so_far : fit ≡ all_below (place_fit words) place
+use Rattle.entries.specs.Entry.{no_entry}
+use Rattle.entries.specs.declared.Entry.{Entry}
+use Rattle.cardgate.specs.Content.{place_words, entry_in, place_in, entry_fit, place_fit, if_fit}
 
 -- what is lent of place k is its five words
 pub lent_five : (words : List ℕ) (k : ℕ) → part words (2 + 5 * k) (2 + 5 * k + 5 - (2 + 5 * k)) ≡ place_words words k
 lent_five words k = let n : 2 + 5 * k + 5 - (2 + 5 * k) ≡ 5 = omega arith in rw n
 
+-- what is found where the words fit, and where they do not
+pub some_fit : {A : Type 0} (fit : Bool) (a b : A) → Some b ≡ if_fit fit a → (fit ≡ true) × (b ≡ a)
+some_fit true a b e = (refl, cc)
+some_fit false a b e = cc
+
+pub none_fit : {A : Type 0} (fit : Bool) (a : A) → None ≡ if_fit fit a → fit ≡ false
+none_fit true a e = cc
+none_fit false a e = refl
+
+none_of : {A : Type 0} (fit : Bool) (a : A) → (fit ≡ true → ⊥) → None ≡ if_fit fit a
+none_of true a n = absurd (n refl)
+none_of false a n = refl
+
 module _ (words : List ℕ) where
-  pub tested_none : Tested words true 0
-  tested_none = record { within = omega arith; so_far = sym (all_below_none (place_fit words)) }
+  -- none was read
+  pub read_none : {none : Entry} → none ≡ no_entry → Made (place_in words) no_entry 31 0 (replicate 31 none)
+  read_none e = rw e (made_none (place_in words) no_entry 31)
 
-  module _ {fit : Bool} {place : ℕ} (t : Tested words fit place) where
-    pub tested_more : {here : Bool} → place < 31
-        → here ≡ entry_fit (part words (2 + 5 * place) (2 + 5 * place + 5 - (2 + 5 * place)))
-        → Tested words (fit && here) (place + 1)
-    tested_more h e =
-        record {
-          within = omega arith;
-          so_far = all_below_turn (place_fit words) place _ _ t.so_far (e ∙ ap entry_fit (lent_five words place));
-        }
+  pub fit_none : all_below (place_fit words) 0 ≡ true
+  fit_none = all_below_none (place_fit words)
 
-    pub tested_all : 31 ≤ place → fit ≡ all_below (place_fit words) 31
-    tested_all h = t.so_far ∙ ap (all_below (place_fit words)) (omega (arith, t.within))
+  -- one entry more was read, and its words fit
+  pub read_more : (k : ℕ) (entries : List Entry) (e : Entry) → Made (place_in words) no_entry 31 k entries → k < 31
+      → e ≡ entry_in (part words (2 + 5 * k) (2 + 5 * k + 5 - (2 + 5 * k)))
+      → Made (place_in words) no_entry 31 (k + 1) (set entries k e)
+  read_more k entries e m h q =
+      made_more (place_in words) no_entry 31 k entries m e h (q ∙ ap entry_in (lent_five words k))
 
--- what is lent of place k fits where every entry does
-pub lent_fits : (words : List ℕ) (k : ℕ) → all_below (place_fit words) 31 ≡ true → k < 31
-    → Fitting (part words (2 + 5 * k) (2 + 5 * k + 5 - (2 + 5 * k)))
-lent_fits words k e h =
-    fitting _ (ap entry_fit (lent_five words k) ∙ all_below_at (place_fit words) 31 e k h)
+  pub fit_more : (k : ℕ) → all_below (place_fit words) k ≡ true
+      → entry_fit (part words (2 + 5 * k) (2 + 5 * k + 5 - (2 + 5 * k))) ≡ true → all_below (place_fit words) (k + 1) ≡ true
+  fit_more k e f = all_below_more (place_fit words) k ∙ ap₂ ◌&&◌ e (ap entry_fit (sym (lent_five words k)) ∙ f)
 
--- 157 words that were found to fit
-pub found_fitting : (words : List ℕ) {r : Bool} → length words ≡ 157 → r ≡ content_fit words → not r ≡ false
-    → (length words ≡ 157) × FittingContent words
-found_fitting words {r} h e n = (h, fitting_content words (sym e ∙ not-false r n))
+  -- all were read, and the words of each fit
+  pub read_all : {k : ℕ} {entries : List Entry} → Made (place_in words) no_entry 31 k entries
+      → all_below (place_fit words) k ≡ true → 31 ≤ k
+      → Some entries ≡ if_fit (all_below (place_fit words) 31) (listed (place_in words) 0 31)
+  read_all {k} {entries} m e h =
+      let last : k ≡ 31 = omega (arith, m.reached) in
+      let all : all_below (place_fit words) 31 ≡ true = rw last at e in
+      simp all (ap Some (made_all (place_in words) no_entry 31 k entries m h))
+
+  -- the words of one do not fit
+  pub read_stopped : {k : ℕ} {r : Option (List Entry)} → k < 31
+      → entry_fit (part words (2 + 5 * k) (2 + 5 * k + 5 - (2 + 5 * k))) ≡ false → r ≡ None
+      → r ≡ if_fit (all_below (place_fit words) 31) (listed (place_in words) 0 31)
+  read_stopped {k} h f q =
+      q ∙ none_of (all_below (place_fit words) 31) (listed (place_in words) 0 31) (λ e.
+      true_false (sym (all_below_at (place_fit words) 31 e k h) ∙ ap entry_fit (sym (lent_five words k)) ∙ f))

@@ -2,7 +2,7 @@
 -- the number of entries; then five words for each of the 31 entries: kind, flow, length, handle and clock, entry k's
 -- from word 2 + 5 k on, those of an unused entry zeros.
 -- Assumes nothing.
-use Rattle.std.specs.Prelude.{Bool, ◌&&◌, List, [], ◌∷◌, ℕ, ◌+◌, ◌*◌, ◌^◌, ltb, get_or}
+use Rattle.std.specs.Prelude.{Bool, cond, ◌&&◌, List, [], ◌∷◌, ℕ, ◌+◌, ◌*◌, ◌^◌, Option, Some, None, ltb, get_or}
 use Rattle.below.specs.Below.{all_below}
 use Rattle.below.specs.Listed.{listed}
 use Rattle.below.specs.Joined.{joined}
@@ -61,3 +61,7 @@ place_fit words k = entry_fit (place_words words k)
 -- "block number in 0 to 3, entry count 1 to 31 in 4", and every entry
 unfoldable pub content_fit : List ℕ → Bool
 content_fit words = ltb (get_or words 0 0) (2 ^ 32) && (ltb (get_or words 1 0) (2 ^ 8) && all_below (place_fit words) 31)
+
+-- what words tell where they fit, and nothing where they do not
+abbrev pub if_fit : {A : Type 0} → Bool → A → Option A
+if_fit fit found = cond fit (Some found) None

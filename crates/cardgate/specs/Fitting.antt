@@ -1,4 +1,4 @@
--- What the tests of specs/Content.antt say of the words, in bounds: the conversions to fields ask for these.
+-- What the tests of specs/Content.antt say of the words, in bounds: what such words tell fits its fields.
 -- Assumes nothing.
 use Rattle.std.specs.Prelude.{◌≡◌, true, List, ℕ, ◌^◌, ◌<◌, get_or}
 use Rattle.std.proofs.Common.{ltb-true}

@@ -1,7 +1,7 @@
 -- Writing and reading undo each other for the caller, document 02 d): "Writer and reader are wanted, each undoing the
 -- other." What is assumed of words and bytes is what their types give: 64 bits, and 8.
 -- Assumes nothing.
-use Rattle.std.specs.Prelude.{◌≡◌, Bool, true, false, cond, List, ℕ, ◌+◌, ◌*◌, ◌^◌, ◌<◌, eqb, drop}
+use Rattle.std.specs.Prelude.{◌≡◌, Bool, true, false, cond, List, ℕ, ◌+◌, ◌*◌, ◌^◌, ◌<◌, Result, Ok, Err, eqb, drop}
 use Rattle.std.proofs.Math.Path.{refl, sym, ap}
 use Rattle.std.proofs.Common.{◌∙◌, arith, get_or-take}
 use Rattle.std.proofs.Math.ListN.{length, get_or}
@@ -12,10 +12,11 @@ use Rattle.below.specs.Listed.{listed, listed_here, length_listed}
 use Rattle.fields.specs.Bytes.{Small}
 use Rattle.entries.specs.Entry.{no_entry, EntryFits}
 use Rattle.card.specs.Block.{block_bytes, block_legal, block_of, BlockFits}
-use Rattle.card.specs.Card.{accepted, Written, written, write_rule, read_rule}
+use Rattle.card.specs.Card.{refusal_number, accepted, Written, written, write_rule, read_rule}
 use Rattle.card.specs.RoundTrips.{block_small, read_bytes, written_read, read_accepted}
 use Rattle.card.specs.declared.Block.{Block}
-use Rattle.card.specs.declared.Reading.{Reading}
+use Rattle.card.specs.declared.Refusal.{Refusal}
+use Rattle.card.specs.declared.Refusal.TheVariants.{Size, Sums, Field}
 use Rattle.cardgate.specs.Content.{content_words, place_words, entry_in, place_in, content_in, place_fit, content_fit}
 use Rattle.cardgate.specs.Fitting.{fitting, fitting_content}
 use Rattle.cardgate.specs.Contents.{content_told, content_again, content_long, content_fits}
@@ -85,30 +86,35 @@ module _ (content room : List ℕ) (done : (card_write content room).answer ≡ 
       let found : read_rule (block_bytes b) ≡ accepted b =
       read_bytes b (told_fits content small tests.2) ∙ simp tests.3 in
       ap (λ (w : Written). card_read w.bytes other) block_left
-      ∙ simp (eq-eqb _ _ h) (ap (λ (r : Reading). tell_content r other) found
+      ∙ simp (eq-eqb _ _ h) (ap (λ (r : Result Block Refusal). tell_content r other) found
       ∙ ap (told 0) (content_again content (eqb-true _ _ tests.0)))
 
 -- ---- writing what was read
 
--- the tests of a reading: the words, and that the block was accepted
-both_passed : (words done : Bool) (number : ℕ) (found content : List ℕ) → done ≡ eqb number 0
-    → (cond words (cond done (told 0 found) (told number content)) (told 101 content)).answer ≡ 0
-    → (words ≡ true) × (number ≡ 0)
-both_passed true true number found content e d = (refl, eqb-true number 0 (sym e))
-both_passed true false number found content e d = (refl, d)
-both_passed false done number found content e d = absurd (omega (arith, d))
+-- the number of a refusal is never 0
+refusal_some : (refusal : Refusal) → refusal_number refusal ≡ 0 → ⊥
+refusal_some Size e = omega (arith, e)
+refusal_some Sums e = omega (arith, e)
+refusal_some Field e = omega (arith, e)
+
+-- a reading that is done has passed its tests: the words, and that the block was accepted
+read_tests : (words : Bool) (outcome : Result Block Refusal) (content : List ℕ)
+    → (cond words (tell_content outcome content) (told 101 content)).answer ≡ 0
+    → (words ≡ true) × ((b : Block) × (outcome ≡ accepted b))
+read_tests true (Ok b) content e = (refl, (b, refl))
+read_tests true (Err refusal) content e = absurd (refusal_some refusal e)
+read_tests false outcome content e = absurd (omega (arith, e))
 
 module _ (bytes content : List ℕ) (small : Small bytes) (done : (card_read bytes content).answer ≡ 0) where
-  abbrev found : Block
-  found = (read_rule bytes).block
-
-  passed : (eqb (length content) 157 ≡ true) × ((read_rule bytes).refusal ≡ 0)
+  passed : (eqb (length content) 157 ≡ true) × ((b : Block) × (read_rule bytes ≡ accepted b))
   unfolding card_read
-  passed = both_passed (eqb (length content) 157) (eqb (read_rule bytes).refusal 0) (read_rule bytes).refusal
-      (content_words found) content refl done
+  passed = read_tests (eqb (length content) 157) (read_rule bytes) content done
+
+  abbrev found : Block
+  found = passed.1.0
 
   accepts : read_rule bytes ≡ accepted found
-  accepts = λ i. record { refusal = passed.1 i; block = found }
+  accepts = passed.1.1
 
   found_fits : BlockFits found
   found_fits = let a = read_accepted bytes found accepts in
@@ -117,7 +123,7 @@ module _ (bytes content : List ℕ) (small : Small bytes) (done : (card_read byt
 
   words_left : card_read bytes content ≡ told 0 (content_words found)
   unfolding card_read
-  words_left = simp (passed.0, eq-eqb _ _ passed.1)
+  words_left = simp passed.0 (ap (λ (r : Result Block Refusal). tell_content r content) accepts)
 
   -- an accepted block, written again from the words that were read, is the same bytes, into any 512
   pub write_after_read : (room : List ℕ) → length room ≡ 512

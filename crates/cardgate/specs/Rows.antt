@@ -1,14 +1,16 @@
 -- The two calls at the limits of what may be lent, as rows of a single list with a single claim: what is lent, and the
 -- number that the call answers. And wrong libraries, each with an input at which it leaves the rule.
 -- Assumes nothing.
-use Rattle.std.specs.Prelude.{◌≡◌, refl, Bool, true, cond, not, ◌&&◌, List, [], ◌∷◌, ◌++◌, ℕ, ◌+◌, ◌-◌, ◌%◌, ◌^◌, eqb, get_or, set, take, replicate}
+use Rattle.std.specs.Prelude.{◌≡◌, refl, Bool, true, cond, not, ◌&&◌, List, [], ◌∷◌, ◌++◌, ℕ, ◌+◌, ◌-◌, ◌%◌, ◌^◌, Result, Ok, Err, eqb, get_or, set, take, replicate}
 use Rattle.below.specs.Below.{all_below}
 use Rattle.below.specs.Listed.{listed}
 use Rattle.below.specs.Joined.{joined}
 use Rattle.fields.specs.Bytes.{bytes_of, number_of}
 use Rattle.sums.specs.Sums.{total, running, sums_right}
-use Rattle.entries.specs.Entry.{entry_bytes, entry_of}
+use Rattle.entries.specs.Entry.{entry_bytes, entry_of, no_entry}
 use Rattle.entries.specs.Legal.{kind_of, packet_legal, rest_blank, entry_legal, entry_blank}
+use Rattle.card.specs.declared.Block.{Block}
+use Rattle.card.specs.declared.Refusal.{Refusal}
 use Rattle.card.specs.Block.{body_bytes, sum_bytes, block_bytes, block_of, entry_may, block_legal}
 use Rattle.card.specs.Card.{Written, written, write_rule, read_rule}
 use Rattle.card.specs.Rows.{worked, all}
@@ -75,9 +77,14 @@ cuts_words content bytes = write_rule (content_in (set content 2 (get_or content
 abbrev words_first : List ℕ → List ℕ → Written
 words_first content bytes = cond (content_fit content) (card_write content bytes) (written 12 bytes)
 
+-- the content that was found, and zeros where the block was refused
+abbrev found_or_zeros : Result Block Refusal → Block
+found_or_zeros (Ok block) = block
+found_or_zeros (Err refusal) = record { number = 0; count = 0; entries = replicate 31 no_entry }
+
 -- a reader that writes the words and then refuses
 abbrev written_anyway : List ℕ → List ℕ → Told
-written_anyway bytes content = told (card_read bytes content).answer (content_words (read_rule bytes).block)
+written_anyway bytes content = told (card_read bytes content).answer (content_words (found_or_zeros (read_rule bytes)))
 
 pub rows_hold : all rows ≡ true
 unfolding all rows card_write card_read content_words joined content_in entry_in content_fit entry_fit read_rule write_rule

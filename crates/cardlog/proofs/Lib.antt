@@ -1,5 +1,4 @@
--- `Noting`: what each way through a call gives, with the entry that it logs. `Adding`: a block with an entry more.
--- `Determined`: any two outcomes that a call's contract allows are one.
+-- `Noting`: that flow and length of a call that is done fit their fields. `Determined`: any two outcomes that a call's
+-- contract allows are one.
 pub mod Noting
-pub mod Adding
 pub mod Determined

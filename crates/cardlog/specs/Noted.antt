@@ -1,16 +1,10 @@
 -- What the functions of `src/lib.rt` give: a call's outcome, and beside it the entries that the call logs.
 -- Assumes nothing.
-use Rattle.std.specs.Prelude.{List, [], ◌∷◌}
+use Rattle.std.specs.Prelude.{List}
 use Rattle.uplink.specs.State.{State, Outcome}
 use Rattle.uplink.specs.Calls.{Call, after_call}
 use Rattle.entries.specs.declared.Entry.{Entry}
-use Rattle.cardlog.specs.declared.Noted.{Noted}
 use Rattle.cardlog.specs.Logged.{logged}
-
--- one entry or none
-abbrev pub noted_entries : Noted → List Entry
-noted_entries (Noted.Entry e) = e ∷ []
-noted_entries Noted.None = []
 
 pub record Noting : Type 0 where
   pub outcome : Outcome

@@ -2,43 +2,26 @@
 // Calls that are refused log nothing, and an opening is not logged.
 #![tactic(auto)]
 
-ghost use Rattle.std.specs.Prelude.{◌≡◌, cond, [], ◌+◌};
-ghost use Rattle.reply.specs.Reply.{arrival_reply};
+ghost use Rattle.std.specs.Prelude.{◌≡◌, []};
+ghost use Rattle.std.specs.Option.{option_to_list};
+ghost use Rattle.reply.specs.Reply.{done_reply};
 ghost use Rattle.reply.specs.State.{state, outcome};
 ghost use Rattle.uplink.specs.PickReply.{pick_reply};
 ghost use Rattle.uplink.specs.Calls as calls;
-ghost use Rattle.cardlog.specs.Logged.{idle_entry};
 ghost use Rattle.cardlog.specs.Log.{content_of};
 ghost use Rattle.cardlog.specs.Feed.{added_rule};
-ghost use Rattle.cardlog.specs.Noted.{noted_entries, noting, note_rule};
+ghost use Rattle.cardlog.specs.Noted.{noting, note_rule};
 
 use card::Block;
-use entries::Entry;
-use reply::ArrivalReply;
-use uplink::{PickReply, Record};
+use entries::{Entry, Kind};
+use reply::Called;
+use uplink::{Packet, Record};
 
-// What a call logs.
+// What a call gives, and the entry that it logs: none where it was refused.
 #[derive(Drop)]
-pub enum Noted {
-    Entry(Entry),
-    // The call was refused.
-    None,
-}
-
-// The record after an arrival, with the reply and what is logged.
-#[derive(Drop)]
-pub struct LoggedArrival {
-    pub next: Record,
-    pub reply: ArrivalReply,
-    pub noted: Noted,
-}
-
-// The record after a pick, with the reply and what is logged.
-#[derive(Drop)]
-pub struct LoggedPick {
-    pub next: Record,
-    pub reply: PickReply,
-    pub noted: Noted,
+pub struct Logged<T> {
+    pub called: Called<Record, T>,
+    pub entry: Option<Entry>,
 }
 
 // An arrival: a packet of `length` bytes, known to the caller by `handle`, comes to `flow`.
@@ -49,117 +32,70 @@ pub fn arrival(
     handle: u32,
     lengths: &mut [u16],
     handles: &mut [u32],
-) -> LoggedArrival
+) -> Logged<()>
     ensures exact { noting
-        (outcome (arrival_reply result.reply) result.next lengths.new handles.new)
-        (noted_entries result.noted)
+        (outcome (done_reply result.called.reply) result.called.next lengths.new handles.new)
+        (option_to_list result.entry)
         ≡ note_rule (state held lengths.old handles.old) (calls.arrival flow length handle) }
 {
-    let arrived = held.arrival(flow, length, handle, lengths, handles);
-    let next = arrived.next;
-    let reply = arrived.reply;
-    let clock = next.clock.0;
-    let mut noted = Noted::None;
-    if let ArrivalReply::Done = reply {
-        let number = flow as u8;
-        let bytes = length as u16;
-        let entry = Entry {
-            kind: 1,
-            flow: number,
-            length: bytes,
+    let called = held.arrival(flow, length, handle, lengths, handles);
+    let entry = match called.reply {
+        Ok(()) => Some(Entry {
+            kind: u8::from(Kind::Arrival),
+            flow: flow as u8,
+            length: length as u16,
             handle,
-            clock,
-        };
-        noted = Noted::Entry(entry);
-    }
-    LoggedArrival { next, reply, noted }
+            clock: called.next.clock.0,
+        }),
+        Err(_) => None,
+    };
+    Logged { called, entry }
 }
 
-// "4 Idle .. Idle has zeros in all these."
-fn idle_entry() -> Entry
-    ensures { result ≡ idle_entry }
-{
-    Entry {
-        kind: 4,
-        flow: 0,
-        length: 0,
-        handle: 0,
-        clock: 0,
-    }
-}
-
-// "2 pick without leap, 3 pick with leap".
-fn pick_kind(leapt: bool) -> u8
-    ensures { result ≡ 2 + cond leapt 1 0 }
-{
-    if leapt { 3 } else { 2 }
-}
-
-// A pick: the next packet to send.
-pub fn pick(held: Record, lengths: &mut [u16], handles: &mut [u32]) -> LoggedPick
+// A pick: the next packet to send. Where nothing waits an Idle is logged, which has zeros in all fields but the kind.
+pub fn pick(held: Record, lengths: &mut [u16], handles: &mut [u32]) -> Logged<Option<Packet>>
     ensures exact { noting
-        (outcome (pick_reply result.reply) result.next lengths.new handles.new)
-        (noted_entries result.noted)
+        (outcome (pick_reply result.called.reply) result.called.next lengths.new handles.new)
+        (option_to_list result.entry)
         ≡ note_rule (state held lengths.old handles.old) calls.pick }
 {
-    let picked = held.pick(lengths, handles);
-    let next = picked.next;
-    let reply = picked.reply;
-    let after = next.clock.0;
-    let mut noted = Noted::None;
-    match reply {
-        PickReply::Idle => {
-            let entry = idle_entry();
-            noted = Noted::Entry(entry);
-        }
-        PickReply::Packet {
-            flow,
-            length,
-            handle,
-            leapt,
-            ..
-        } => {
-            let kind = pick_kind(leapt);
-            let number = flow as u8;
-            let entry = Entry {
-                kind,
-                flow: number,
-                length,
-                handle,
-                clock: after,
-            };
-            noted = Noted::Entry(entry);
-        }
-        PickReply::Refused(_) => {}
-    }
-    LoggedPick { next, reply, noted }
+    let called = held.pick(lengths, handles);
+    let entry = match called.reply {
+        Ok(Some(packet)) => Some(Entry {
+            kind: u8::from(if packet.leapt { Kind::Leap } else { Kind::Pick }),
+            flow: packet.flow as u8,
+            length: packet.length,
+            handle: packet.handle,
+            clock: called.next.clock.0,
+        }),
+        Ok(None) => Some(Entry {
+            kind: u8::from(Kind::Idle),
+            ..entries::no_entry()
+        }),
+        Err(_) => None,
+    };
+    Logged { called, entry }
 }
 
 // A block with no entries yet.
 pub fn begun(number: u32) -> Block
     ensures { result ≡ content_of number [] }
 {
-    let none = entries::no_entry();
     Block {
         number,
         count: 0,
-        entries: [none; 31],
+        entries: [entries::no_entry(); 31],
     }
 }
 
 // The block with an entry behind its last one; a block that is full stays as it is.
-pub fn added(block: Block, entry: Entry) -> Block
+#[tactic(auto, unfolding(crate::specs::Feed::added_rule))]
+pub fn added(mut block: Block, entry: Entry) -> Block
     ensures { result ≡ added_rule block entry }
 {
-    let count = block.count;
-    if 31 <= count {
-        return block;
+    if block.count < 31 {
+        block.entries[usize::from(block.count)] = entry;
+        block.count += 1;
     }
-    let mut entries = block.entries;
-    entries[count as usize] = entry;
-    Block {
-        number: block.number,
-        count: count + 1,
-        entries,
-    }
+    block
 }

@@ -1,43 +1,34 @@
 // An input read whole, as standard input is: what every program here begins with.
 #![tactic(auto)]
 
-ghost use Rattle.std.specs.Prelude.{◌≡◌, ◌<◌, length, take, false};
+ghost use Rattle.std.specs.Prelude.{◌<◌, length, take, IfOk};
 ghost use Rattle.std.specs.Io.KnownBytes.{Consumes, IsAtEnd};
-ghost use Rattle.console.specs.Counts.{IsPrefixLen};
+ghost use Rattle.console.specs.Counts.{IsPrefixLen, bytes_read};
 
 use std::io::Read;
 
-// What was read of an input: so many bytes, and whether a read failed.
+// A read that failed, and how many bytes were read before it.
 #[derive(Drop)]
-pub struct Input {
+pub struct Stopped {
     pub count: usize,
-    pub failed: bool,
 }
 
-// Reads until the buffer is full, the input ends or a read fails.
-pub fn read_input<R: Read>(reader: &mut R, input: &mut [u8]) -> Input
-    ensures within { IsPrefixLen result.count input.new }
-    ensures bytes { Consumes (R.remaining reader.old) (R.remaining reader.new) (take result.count input.new) }
-    ensures end { result.failed ≡ false → result.count < length input.new → IsAtEnd (R.remaining reader.new) }
+// Reads until the buffer is full, the input ends or a read fails, and gives how many bytes were read.
+pub fn read_input<R: Read>(reader: &mut R, input: &mut [u8]) -> Result<usize, Stopped>
+    ensures within { IsPrefixLen (bytes_read result) input.new }
+    ensures bytes { Consumes (R.remaining reader.old) (R.remaining reader.new) (take (bytes_read result) input.new) }
+    ensures end { IfOk result (λ count. count < length input.new → IsAtEnd (R.remaining reader.new)) }
 {
+    // The place goes on by what each read gave: no iterator has it.
     let mut count = 0;
     while count < input.len() {
         let Ok(more) = reader.read(&mut input[count..]) else {
-            return Input {
-                count,
-                failed: true,
-            };
+            return Err(Stopped { count });
         };
         if more == 0 {
-            return Input {
-                count,
-                failed: false,
-            };
+            return Ok(count);
         }
         count += more;
     }
-    Input {
-        count,
-        failed: false,
-    }
+    Ok(count)
 }

@@ -1,2 +1,2 @@
--- `Entering`: an entry written and read field by field, and each way through the rules.
+-- `Entering`: an entry written and read field by field.
 mod Entering

@@ -1,6 +1,6 @@
--- Entries and their sixteen bytes undo each other: what callers use.
+-- Entries and their sixteen bytes undo each other, and so do kinds and their numbers: what callers use.
 -- Assumes nothing.
-use Rattle.std.specs.Prelude.{◌≡◌, refl, ℕ, length, drop}
+use Rattle.std.specs.Prelude.{◌≡◌, refl, ℕ, Some, length, drop}
 use Rattle.std.proofs.Common.{sym, ap₂, ◌∙◌, arith, length-drop, drop-cons, take_all}
 use Rattle.std.proofs.Math.Path.{ap}
 use mathlib.Core.List.{List, ◌∷◌, ◌++◌}
@@ -8,6 +8,9 @@ use Rattle.std.proofs.Math.ListN.{get_or}
 use Rattle.fields.specs.Bytes.{bytes_of, part, Small}
 use Rattle.fields.specs.Laws.{number_bytes, part_below, part_again, part_join}
 use Rattle.entries.specs.declared.Entry.{Entry}
+use Rattle.entries.specs.declared.Kind.{Kind}
+use Rattle.entries.specs.declared.Kind.TheVariants.{Arrival, Pick, Leap, Idle}
+use Rattle.entries.specs.Legal.{kind_of, kind_number}
 use Rattle.entries.specs.Entry.{entry_bytes, entry_of, EntryFits}
 
 pub entry_sixteen : (e : Entry) → length (entry_bytes e) ≡ 16
@@ -56,3 +59,11 @@ entry_small bytes h s =
       handle = part_below bytes 4 4 s (omega arith);
       clock = part_below bytes 8 8 s (omega arith);
     }
+
+-- a kind's number is that kind's
+pub kind_again : (kind : Kind) → kind_of (kind_number kind) ≡ Some kind
+unfolding kind_of
+kind_again Arrival = refl
+kind_again Pick = refl
+kind_again Leap = refl
+kind_again Idle = refl

@@ -4,10 +4,12 @@
 
 ghost use Rattle.std.specs.Prelude.{◌≡◌, length};
 ghost use Rattle.entries.specs.Entry.{entry_bytes, entry_of, no_entry};
-ghost use Rattle.entries.specs.Legal.{kind_of, packet_legal, rest_blank, entry_legal, entry_blank};
+ghost use Rattle.entries.specs.Legal.{Decodes, kind_number, packet_legal, rest_blank, entry_legal, entry_blank};
+
+use fields::{read_number, write_number};
 
 // One call as the card has it.
-#[derive(Clone, Copy)]
+#[derive(Clone, Copy, PartialEq, Eq)]
 pub struct Entry {
     // What call it was, 1 to 4; 0 where the entry is not used.
     pub kind: u8,
@@ -22,18 +24,47 @@ pub struct Entry {
 }
 
 // What an entry's first byte says.
-#[derive(Drop)]
+#[derive(Clone, Copy, PartialEq, Eq)]
 pub enum Kind {
-    // 1: a packet came to a flow.
-    Arrival,
-    // 2: a packet was picked, without a leap.
-    Pick,
-    // 3: a packet was picked, with a leap.
-    Leap,
-    // 4: nothing waited.
-    Idle,
-    // Any other number: no entry has it.
-    Other,
+    // A packet came to a flow.
+    Arrival = 1,
+    // A packet was picked, without a leap.
+    Pick = 2,
+    // A packet was picked, with a leap.
+    Leap = 3,
+    // Nothing waited.
+    Idle = 4,
+}
+
+// A number that is no kind's.
+#[derive(Clone, Copy, PartialEq, Eq)]
+pub struct UnknownKind(pub u8);
+
+// The kind of a number.
+impl TryFrom<u8> for Kind {
+    type Error = UnknownKind;
+
+    ghost try_from_gives = { Decodes };
+
+    #[tactic(auto, using(std::proofs::lemmas::Bool::Decides::nat_tests), unfolding(crate::specs::Legal::kind_of))]
+    fn try_from(number: u8) -> Result<Kind, UnknownKind> {
+        match number {
+            1 => Ok(Kind::Arrival),
+            2 => Ok(Kind::Pick),
+            3 => Ok(Kind::Leap),
+            4 => Ok(Kind::Idle),
+            _ => Err(UnknownKind(number)),
+        }
+    }
+}
+
+// The number of a kind.
+impl From<Kind> for u8 {
+    ghost from_gives = { λ kind number. number ≡ kind_number kind };
+
+    fn from(kind: Kind) -> u8 {
+        kind as u8
+    }
 }
 
 // An entry that is not used.
@@ -49,59 +80,34 @@ pub fn no_entry() -> Entry
     }
 }
 
-// The kind of a number.
-pub fn kind_of(number: u8) -> Kind
-    ensures { result ≡ kind_of number }
-{
-    match number {
-        1 => Kind::Arrival,
-        2 => Kind::Pick,
-        3 => Kind::Leap,
-        4 => Kind::Idle,
-        _ => Kind::Other,
-    }
-}
-
 // Whether flow and length are a packet's; any handle and any clock will do.
+#[tactic(auto, using(std::proofs::lemmas::Bool::Decides::nat_tests), unfolding(crate::specs::Legal::packet_legal))]
 fn packet_legal(entry: Entry) -> bool
     ensures { result ≡ packet_legal entry }
 {
-    if 63 < entry.flow {
-        return false;
-    }
-    if entry.length == 0 {
-        return false;
-    }
-    entry.length <= 1500
+    entry.flow <= 63 && matches!(entry.length, 1..=1500)
 }
 
 // Whether there are zeros in all fields but the kind.
 fn rest_blank(entry: Entry) -> bool
     ensures { result ≡ rest_blank entry }
 {
-    if entry.flow != 0 {
-        return false;
-    }
-    if entry.length != 0 {
-        return false;
-    }
-    if entry.handle != 0 {
-        return false;
-    }
-    entry.clock == 0
+    entry
+        == Entry {
+            kind: entry.kind,
+            ..no_entry()
+        }
 }
 
 // Whether an entry that is used is within the rules.
+#[tactic(auto, unfolding(crate::specs::Legal::entry_legal, crate::specs::Legal::kind_of))]
 pub fn entry_legal(entry: Entry) -> bool
     ensures { result ≡ entry_legal entry }
 {
-    let kind = kind_of(entry.kind);
-    match kind {
-        Kind::Arrival => packet_legal(entry),
-        Kind::Pick => packet_legal(entry),
-        Kind::Leap => packet_legal(entry),
-        Kind::Idle => rest_blank(entry),
-        Kind::Other => false,
+    match Kind::try_from(entry.kind) {
+        Ok(Kind::Arrival | Kind::Pick | Kind::Leap) => packet_legal(entry),
+        Ok(Kind::Idle) => rest_blank(entry),
+        Err(_) => false,
     }
 }
 
@@ -109,10 +115,7 @@ pub fn entry_legal(entry: Entry) -> bool
 pub fn entry_blank(entry: Entry) -> bool
     ensures { result ≡ entry_blank entry }
 {
-    if 0 < entry.kind {
-        return false;
-    }
-    rest_blank(entry)
+    entry == no_entry()
 }
 
 // Writes an entry's sixteen bytes.
@@ -122,9 +125,9 @@ pub fn write_entry(entry: Entry, bytes: &mut [u8])
 {
     bytes[0] = entry.kind;
     bytes[1] = entry.flow;
-    fields::write_number(&mut bytes[2..4], entry.length as u64);
-    fields::write_number(&mut bytes[4..8], entry.handle as u64);
-    fields::write_number(&mut bytes[8..16], entry.clock);
+    write_number(&mut bytes[2..4], u64::from(entry.length));
+    write_number(&mut bytes[4..8], u64::from(entry.handle));
+    write_number(&mut bytes[8..16], entry.clock);
 }
 
 // The entry that sixteen bytes are.
@@ -132,9 +135,9 @@ pub fn read_entry(bytes: &[u8]) -> Entry
     requires { length bytes.now ≡ 16 }
     ensures { result ≡ entry_of bytes.now }
 {
-    let length = fields::read_number(&bytes[2..4]) as u16;
-    let handle = fields::read_number(&bytes[4..8]) as u32;
-    let clock = fields::read_number(&bytes[8..16]);
+    let length = read_number(&bytes[2..4]) as u16;
+    let handle = read_number(&bytes[4..8]) as u32;
+    let clock = read_number(&bytes[8..16]);
     Entry {
         kind: bytes[0],
         flow: bytes[1],

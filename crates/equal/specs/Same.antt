@@ -16,7 +16,7 @@ use Rattle.queues.specs.Places.{lent}
 use Rattle.queues.specs.Opening.{lists_reply}
 use Rattle.queues.specs.Laws.{join_cases}
 use Rattle.tags.specs.Chosen.{leads, further, leads_further}
-use Rattle.tags.specs.declared.choice.Lead.{Lead}
+use Rattle.tags.specs.Choice.{Lead}
 use Rattle.signs.specs.Tags as signs
 use Rattle.signs.specs.Tags.{natural}
 use Rattle.signs.specs.Raise.{above, above_lowered, raised_lowered, raised_natural}

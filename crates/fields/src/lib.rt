@@ -10,11 +10,9 @@ pub fn write_number(bytes: &mut [u8], number: u64)
     ensures { bytes.new ≡ bytes_of (length bytes.old) number }
 {
     let mut left = number;
-    let mut at = 0;
-    while at < bytes.len() {
-        bytes[at] = (left % 256) as u8;
-        left = left / 256;
-        at += 1;
+    for byte in bytes.iter_mut() {
+        *byte = (left % 256) as u8;
+        left /= 256;
     }
 }
 
@@ -23,11 +21,9 @@ pub fn read_number(bytes: &[u8]) -> u64
     requires { length bytes.now ≤ 8 }
     ensures { (result ≡ number_of bytes.now) × (result < 256 ^ length bytes.now) }
 {
-    let mut number: u64 = 0;
-    let mut at = bytes.len();
-    while 0 < at {
-        at -= 1;
-        number = number * 256 + bytes[at] as u64;
+    let mut number = 0;
+    for byte in bytes.iter().rev() {
+        number = number * 256 + u64::from(*byte);
     }
     number
 }

@@ -1,29 +1,28 @@
 -- How a block and a reply are read and written, word by word.
 -- Assumes nothing.
 use mathlib.Core.Path.{◌≡◌, refl, sym, ap, ◌∙◌}
-use mathlib.Core.Bool.{Bool, true, false, cond}
-use mathlib.Core.List.{List, [], ◌∷◌, ◌++◌, append_assoc, append-nil}
+use mathlib.Core.Bool.{and-false}
+use mathlib.Core.Logic.{◌⊎◌, inl, inr}
+use borrow.Author.Tests.{lt-ltb, le-ltb}
+use mathlib.Core.List.{List, [], ◌∷◌, ◌++◌, append_assoc}
 use Prim.Native.Nat.{ℕ, zero, suc, ◌+◌, ◌*◌, ◌/◌, ◌%◌, ◌^◌, ◌≤◌, ◌<◌}
-use native.Mathlib.Nat.{zero-add, suc-add}
 use native.Mathlib.Omega.{arith}
-use lib.ListN.{length, get_or, set, drop, replicate, length-set}
-use lib.Seq.{drop-cons, drop-length, get_or-take, get_or-drop, sets, sets-eq}
-use mir.Val.{bool_byte}
+use lib.ListN.{length, get_or, set, drop, replicate}
+use lib.Seq.{drop-cons, drop-length, get_or-take, get_or-drop}
 use borrow.Rule.Slice.PartMut.{put_mid}
+use Rattle.std.proofs.lemmas.List.{set-append_right}
 use Rattle.below.specs.Copied.{Copied, copied_more}
-use Rattle.below.specs.Filled.{Filled, filled_length, filled_more}
-use Rattle.reply.specs.Reply.{done, packet}
+use Rattle.below.specs.Filled.{Filled, filled_more}
+use Rattle.reply.specs.Reply.{Reply, idle, done, refused}
 use Rattle.queues.specs.Queues.{queues_of}
 use Rattle.queues.specs.Opening.{field64}
-use Rattle.queues.specs.Laws.{field_length}
 use Rattle.tags.specs.Ticks.{ticks}
-use Rattle.tags.specs.declared.ServerTicks.{ServerTicks}
-use Rattle.uplink.specs.Record.{flow_at, tag_of, link_time, tags_of}
+use Rattle.uplink.specs.Record.{link_time, tags_of}
 use Rattle.uplink.specs.declared.Record.{Record}
-use Rattle.gateway.specs.Image.{four_at, field_words, quarter, field_in, head_word, part, words_of, record_of}
-use Rattle.gateway.specs.Images.{in_length_lem, entry_at, entry, words_length}
-use Rattle.gateway.specs.Depth.{depth_of}
-use Rattle.gateway.specs.Step.{step_words}
+use Rattle.gateway.specs.Image.{field_words, quarter, field_in, head_word, part, words_of, record_of}
+use Rattle.gateway.specs.Images.{in_length_lem, entry_at, entry, words_length, field_same}
+use Rattle.gateway.specs.Depth.{depth_reply}
+use Rattle.gateway.specs.Step.{step_words, picked_words}
 
 -- one entry more, its number and its value told by equations
 next_entry : (words : List ℕ) (n m : ℕ) (field : List ℕ) (x : ℕ) → n < 64 → m ≡ n + 1 → x ≡ get_or (field_in words) n 0
@@ -46,14 +45,6 @@ entries_more words k field h c =
     (next_entry words (4 * k) (4 * k + 1) field _ (omega arith) (omega arith)
     (sym (ap (λ n. get_or (field_in words) n 0) z ∙ entry words k 0 h (omega arith))) c)))
 
--- the six words of a step
-pub step_made : (words : List ℕ) (r : Record) (f : ℕ) (tag : ServerTicks) (first waiting : ℕ) → tag.0 ≡ tag_of r f
-    → first ≡ four_at r.queues.first (f / 4) → waiting ≡ four_at r.queues.waiting (f / 4)
-    → set (set (set (set (set (set words 1 r.clock.0) 2 r.link.0) (3 + f) tag.0) (99 + f / 4) first)
-    (115 + f / 4) waiting) 131 r.turn
-    ≡ step_words words r f
-step_made words r f tag first waiting t a b = rw (t, a, b)
-
 -- the record whose parts were read one by one
 pub record_read : (words tags share largest first waiting : List ℕ) → tags ≡ part words 3 64
     → share ≡ field_in (part words 67 16) → largest ≡ field_in (part words 83 16) → first ≡ field_in (part words 99 16)
@@ -73,12 +64,9 @@ unfolding record_of
 record_read words tags share largest first waiting t s l f w = rw (t, s, l, f, w)
 
 -- a store past the first of two lists
-set_right : (xs ys : List ℕ) (k a : ℕ) → set (xs ++ ys) (length xs + k) a ≡ xs ++ set ys k a
-set_right [] ys k a = rw zero-add
-set_right (x ∷ xs) ys k a = rw suc-add (ap (λ l. x ∷ l) (set_right xs ys k a))
-
 pub set_past : (xs ys : List ℕ) (n k i a : ℕ) → length xs ≡ n → n + k ≡ i → set (xs ++ ys) i a ≡ xs ++ set ys k a
-set_past xs ys n k i a h e = rw (← e, ← h) (set_right xs ys k a)
+set_past xs ys n k i a h e =
+    set-append_right xs ys n i a h (omega arith) ∙ ap (λ m. xs ++ set ys m a) (omega arith)
 
 -- the first three words
 head_filled : (w0 : List ℕ) (a b c : ℕ) → 3 ≤ length w0 → Filled w0 3 (a ∷ b ∷ c ∷ []) (set (set (set w0 0 a) 1 b) 2 c)
@@ -88,78 +76,35 @@ head_filled (x ∷ y ∷ []) a b c h = absurd (omega arith)
 head_filled (x ∷ y ∷ z ∷ rest) a b c h = record { long = refl; room = h; so_far = refl }
 
 regroup : (a b c d e f : List ℕ) → a ++ b ++ c ++ d ++ e ++ f ≡ a ++ (b ++ (c ++ (d ++ (e ++ f))))
-regroup a b c d e f =
-    append_assoc (a ++ b ++ c ++ d) e f
-    ∙ append_assoc (a ++ b ++ c) d (e ++ f)
-    ∙ append_assoc (a ++ b) c (d ++ (e ++ f))
-    ∙ append_assoc a b (c ++ (d ++ (e ++ f)))
+regroup a b c d e f = simp append_assoc
 
 -- a record written part by part
-module _ (w0 : List ℕ) (long : length w0 ≡ 132) (r : Record) where
-  abbrev head : List ℕ
-  head = head_word r ∷ r.clock.0 ∷ r.link.0 ∷ []
-
-  abbrev block0 : List ℕ
-  block0 = set (set (set w0 0 (head_word r)) 1 r.clock.0) 2 r.link.0
-
-  pub filled_head : Filled w0 3 head block0
-  filled_head = head_filled w0 _ _ _ (omega (arith, long))
-
-  module _ (tags : List ℕ) (t : tags ≡ field64 r.tags.0) where
-    abbrev block1 : List ℕ
-    block1 = put_mid 3 64 block0 tags
-
-    pub filled_tags : Filled w0 67 (head ++ tags) block1
-    filled_tags =
-        filled_more w0 3 head block0 filled_head 64 tags (rw t (field_length r.tags.0)) (omega (arith, long))
-
-    module _ (share : List ℕ) (s : share ≡ field_words r.queues.share) where
-      abbrev block2 : List ℕ
-      block2 = put_mid 67 16 block1 share
-
-      pub filled_share : Filled w0 83 (head ++ tags ++ share) block2
-      filled_share = filled_more w0 67 _ block1 filled_tags 16 share (rw s (words_length _)) (omega (arith, long))
-
-      module _ (largest : List ℕ) (l : largest ≡ field_words r.queues.largest) where
-        abbrev block3 : List ℕ
-        block3 = put_mid 83 16 block2 largest
-
-        pub filled_largest : Filled w0 99 (head ++ tags ++ share ++ largest) block3
-        filled_largest =
-            filled_more w0 83 _ block2 filled_share 16 largest (rw l (words_length _)) (omega (arith, long))
-
-        module _ (first : List ℕ) (f : first ≡ field_words r.queues.first) where
-          abbrev block4 : List ℕ
-          block4 = put_mid 99 16 block3 first
-
-          pub filled_first : Filled w0 115 (head ++ tags ++ share ++ largest ++ first) block4
-          filled_first =
-              filled_more w0 99 _ block3 filled_largest 16 first (rw f (words_length _)) (omega (arith, long))
-
-          module _ (waiting : List ℕ) (w : waiting ≡ field_words r.queues.waiting) where
-            abbrev block5 : List ℕ
-            block5 = put_mid 115 16 block4 waiting
-
-            pub filled_waiting : Filled w0 131 (head ++ tags ++ share ++ largest ++ first ++ waiting) block5
-            filled_waiting =
-                filled_more w0 115 _ block4 filled_first 16 waiting (rw w (words_length _)) (omega (arith, long))
-
-            -- and the turn behind them
-            pub record_length : length (set block5 131 r.turn) ≡ length w0
-            record_length =
-                length-set block5 131 r.turn ∙ filled_length w0 131 _ block5 filled_waiting
-
-            pub record_written : set block5 131 r.turn ≡ words_of r
-            unfolding words_of
-            record_written =
-                let parts = head ++ tags ++ share ++ largest ++ first ++ waiting in
-                let none : drop 132 w0 ≡ [] = ap (λ n. drop n w0) (sym long) ∙ drop-length w0 in
-                let last : drop 131 w0 ≡ get_or w0 131 0 ∷ []
-                = drop-cons w0 131 0 (omega (arith, long)) ∙ ap (λ rest. get_or w0 131 0 ∷ rest) none in
-                ap (λ l. set l 131 r.turn) (filled_waiting.so_far ∙ ap (λ rest. parts ++ rest) last)
-                ∙ set_past parts (get_or w0 131 0 ∷ []) 131 0 131 r.turn filled_waiting.long refl
-                ∙ ap (λ rest. head ++ rest) (regroup tags share largest first waiting (r.turn ∷ []))
-                ∙ rw (t, s, l, f, w)
+pub record_written : (w0 : List ℕ) → length w0 ≡ 132 → (r : Record) → (n : ℕ) → n ≡ head_word r
+    → (tags : List ℕ) → tags ≡ r.tags.0 → length tags ≡ 64 → (share : List ℕ) → share ≡ field_words r.queues.share
+    → (largest : List ℕ) → largest ≡ field_words r.queues.largest
+    → (first : List ℕ) → first ≡ field_words r.queues.first
+    → (waiting : List ℕ) → waiting ≡ field_words r.queues.waiting
+    → set (put_mid 115 16 (put_mid 99 16 (put_mid 83 16 (put_mid 67 16 (put_mid 3 64
+    (set (set (set w0 0 n) 1 r.clock.0) 2 r.link.0) tags) share) largest) first) waiting) 131 r.turn
+    ≡ words_of r
+unfolding words_of
+record_written w0 long r n h tags t u share s largest l first f waiting w =
+    let head = n ∷ r.clock.0 ∷ r.link.0 ∷ [] in
+    let parts = head ++ tags ++ share ++ largest ++ first ++ waiting in
+    let one = head_filled w0 n r.clock.0 r.link.0 (omega (arith, long)) in
+    let two = filled_more w0 3 _ _ one 64 tags u (omega (arith, long)) in
+    let same : tags ≡ field64 r.tags.0 = sym (field_same tags u) ∙ ap field64 t in
+    let three = filled_more w0 67 _ _ two 16 share (rw s (words_length _)) (omega (arith, long)) in
+    let four = filled_more w0 83 _ _ three 16 largest (rw l (words_length _)) (omega (arith, long)) in
+    let five = filled_more w0 99 _ _ four 16 first (rw f (words_length _)) (omega (arith, long)) in
+    let six = filled_more w0 115 _ _ five 16 waiting (rw w (words_length _)) (omega (arith, long)) in
+    let none : drop 132 w0 ≡ [] = ap (λ m. drop m w0) (sym long) ∙ drop-length w0 in
+    let last : drop 131 w0 ≡ get_or w0 131 0 ∷ []
+    = drop-cons w0 131 0 (omega (arith, long)) ∙ ap (λ rest. get_or w0 131 0 ∷ rest) none in
+    ap (λ b. set b 131 r.turn) (six.so_far ∙ ap (λ rest. parts ++ rest) last)
+    ∙ set_past parts (get_or w0 131 0 ∷ []) 131 0 131 r.turn six.long refl
+    ∙ ap (λ rest. head ++ rest) (regroup tags share largest first waiting (r.turn ∷ []))
+    ∙ rw (h, same, s, l, f, w)
 
 -- the entry of a word of 64 bits, by a shift
 shifted : (word j : ℕ) → word < 2 ^ 64 → j < 4 → word / 2 ^ (16 * j) % 2 ^ 16 ≡ quarter word j
@@ -175,30 +120,35 @@ pub entry_read : (words : List ℕ) (f : ℕ) → f < 64 → get_or words (f / 4
 entry_read words f h fits =
     shifted (get_or words (f / 4) 0) (f % 4) fits (omega arith) ∙ sym (entry_at words f h)
 
--- a store at each place of a list, from the first to the last
-stored : (l vs : List ℕ) → length l ≡ length vs → sets l 0 vs ≡ vs
-stored l vs h =
-    sets-eq vs l 0 (omega (arith, h)) ∙ rw (zero-add, ← h, drop-length) (append-nil vs)
+-- the words that a pick leaves where nothing waits
+pub rested_written : (words stepped tags : List ℕ) (r : Record) (reply : Reply) → reply ≡ idle
+    → (f : ℕ) → f ≡ 0 → stepped ≡ step_words words r f → tags ≡ r.tags.0 → length tags ≡ 64
+    → put_mid 3 64 stepped tags ≡ picked_words words r reply
+rested_written words stepped tags r reply q f z s t u =
+    rw (q, s, z) (ap (put_mid 3 64 (step_words words r 0)) (sym (field_same tags u) ∙ ap field64 t))
 
-as_number : (b : Bool) → bool_byte b ≡ cond b 1 0
-as_number true = refl
-as_number false = refl
-
--- the reply of a pick
-pub packet_written : (reply : List ℕ) (flow bytes handle tag clock : ℕ) (leapt : Bool) → length reply ≡ 6
-    → done (set (set (set (set (set (set reply 0 flow) 1 bytes) 2 handle) 3 tag) 4 (bool_byte leapt)) 5 clock)
-    ≡ packet flow bytes handle tag leapt clock
-packet_written reply flow bytes handle tag clock leapt h =
-    ap done (stored reply (flow ∷ bytes ∷ handle ∷ tag ∷ bool_byte leapt ∷ clock ∷ []) h
-    ∙ ap (λ n. flow ∷ bytes ∷ handle ∷ tag ∷ n ∷ clock ∷ []) (as_number leapt))
-
--- the reply of a depth
-pub depth_written : (block reply : List ℕ) (f waiting share largest : ℕ) → length reply ≡ 4 → f < 64
-    → waiting ≡ get_or (field_in (part block 115 16)) f 0 → share ≡ get_or (field_in (part block 67 16)) f 0
-    → largest ≡ get_or (field_in (part block 83 16)) f 0
-    → done (set (set (set (set reply 0 waiting) 1 share) 2 largest) 3 (get_or block (3 + f) 0))
-    ≡ depth_of (flow_at (record_of block) f)
+-- the reply of a depth: 7 where the flow is not counted, or is none of 64
+pub depth_refused : (block : List ℕ) (flow f : ℕ) → f ≡ flow → (get_or block 0 0 % 2 ^ 16 ≤ f) ⊎ (64 ≤ flow)
+    → refused 7 0 ≡ depth_reply (record_of block) flow
 unfolding record_of
-depth_written block reply f waiting share largest h below w s l =
-    ap done (stored reply (waiting ∷ share ∷ largest ∷ get_or block (3 + f) 0 ∷ []) h)
-    ∙ rw (w, s, l, get_or-take 64 (drop 3 block) f 0 below, get_or-drop 3 block f 0)
+depth_refused block flow f e (inl over) = let far : get_or block 0 0 % 2 ^ 16 ≤ flow = rw e at over in
+    rw (le-ltb flow (get_or block 0 0 % 2 ^ 16) far)
+depth_refused block flow f e (inr over) = rw (le-ltb flow 64 over, and-false)
+
+-- and else four values
+pub depth_given : (block : List ℕ) (flow f waiting share largest : ℕ) → f ≡ flow → f < get_or block 0 0 % 2 ^ 16
+    → flow < 64 → waiting ≡ get_or (field_in (part block 115 16)) flow 0
+    → share ≡ get_or (field_in (part block 67 16)) flow 0 → largest ≡ get_or (field_in (part block 83 16)) flow 0
+    → done (waiting ∷ share ∷ largest ∷ get_or block (3 + flow) 0 ∷ []) ≡ depth_reply (record_of block) flow
+unfolding record_of
+depth_given block flow f waiting share largest e counted below w s l =
+    let near : flow < get_or block 0 0 % 2 ^ 16 = rw e at counted in
+    rw (
+      w,
+      s,
+      l,
+      lt-ltb flow (get_or block 0 0 % 2 ^ 16) near,
+      lt-ltb flow 64 below,
+      get_or-take 64 (drop 3 block) flow 0 below,
+      get_or-drop 3 block flow 0,
+    )

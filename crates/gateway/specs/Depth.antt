@@ -1,7 +1,8 @@
 -- The rule of a depth, how many packets wait in a flow: include/uplink.h, `uplink_depth`.
 -- Assumes nothing.
-use Rattle.std.specs.Prelude.{cond, ◌&&◌, [], ◌∷◌, ℕ, ltb}
-use Rattle.reply.specs.Reply.{Reply, done, refused}
+use Rattle.std.specs.Prelude.{cond, ◌&&◌, List, [], ◌∷◌, ℕ, ltb, Result, Ok, Err}
+use Rattle.reply.specs.Reply.{Reply, done, refused, refusal}
+use Rattle.reply.specs.declared.Refusal.{Refusal}
 use Rattle.queues.specs.Form.{counts}
 use Rattle.uplink.specs.Flow.{Flow}
 use Rattle.uplink.specs.Record.{flow_at}
@@ -15,6 +16,11 @@ depth_of w = done (w.queue.waiting ∷ w.queue.share ∷ w.queue.largest ∷ w.t
 -- 7: "the flow number is not below the number of flows"; "A flow of 64 or more is no such flow"
 abbrev pub depth_reply : Record → ℕ → Reply
 depth_reply r f = cond (counts r.flows f && ltb f 64) (depth_of (flow_at r f)) (refused 7 0)
+
+-- the values, or why there are none
+abbrev pub values_reply : Result (List ℕ) Refusal → Reply
+values_reply (Ok values) = done values
+values_reply (Err why) = refusal why
 
 -- "The record is only looked at"
 abbrev pub depth_rule : State → ℕ → Outcome

@@ -2,7 +2,9 @@
 -- time, tags, one flow's first place and number waiting, and the turn.
 -- Assumes nothing.
 use Rattle.std.specs.Prelude.{◌≡◌, List, ℕ, ◌+◌, ◌/◌, ◌%◌, ◌<◌, get_or, set}
+use borrow.Rule.Slice.PartMut.{put_mid}
 use Rattle.reply.specs.Reply.{Reply, idle, done, refused}
+use Rattle.queues.specs.Opening.{field64}
 use Rattle.uplink.specs.Record.{tag_of}
 use Rattle.uplink.specs.declared.Record.{Record}
 use Rattle.gateway.specs.Image.{four_at}
@@ -20,6 +22,12 @@ abbrev pub flow_in : Reply → ℕ
 flow_in idle = 0
 flow_in (done values) = get_or values 0 0 % 64
 flow_in (refused number flow) = 0
+
+-- the words that a pick leaves: those of its flow, and where nothing waits the tags besides
+abbrev pub picked_words : List ℕ → Record → Reply → List ℕ
+picked_words words next idle = put_mid 3 64 (step_words words next 0) (field64 next.tags.0)
+picked_words words next (done values) = step_words words next (flow_in (done values))
+picked_words words next (refused number flow) = step_words words next 0
 
 -- next is what a call with flow f makes of r, whatever became of the clocks, the tags and the turn
 pub record Kept (r next : Record) (f : ℕ) : Type 0 where

@@ -1,8 +1,8 @@
 -- What the caller is told of a call, for any engine: an outcome by its parts, and what a refusal leaves.
 -- Assumes nothing.
-use Rattle.std.specs.Prelude.{◌≡◌, Bool, true, false, cond, List, ℕ}
+use Rattle.std.specs.Prelude.{◌≡◌, Bool, true, false, cond, List, [], ℕ, Result, Ok, Err}
 use Rattle.std.proofs.Math.Path.{refl}
-use Rattle.reply.specs.Reply.{Reply, idle, done, refused, refusal, reply_number}
+use Rattle.reply.specs.Reply.{Reply, idle, done, refused, refusal, reply_number, done_reply}
 use Rattle.reply.specs.Replies as replies
 use Rattle.reply.specs.State.{StateOf, OutcomeOf, outcome}
 use Rattle.reply.specs.declared.Refusal.{Refusal}
@@ -15,6 +15,11 @@ number_told why = rw (replies.told why).says
 -- and it leaves the words of the reply
 pub values_kept : (why : Refusal) (words : List ℕ) → words ≡ values_or (refusal why) words
 values_kept why words = rw (replies.told why).says
+
+-- an opening and an arrival have no words of a reply
+pub wordless : (reply : Result (Unit {0}) Refusal) → [] ≡ values_or (done_reply reply) []
+wordless (Ok _) = refl
+wordless (Err why) = values_kept why []
 
 -- the answer of a refusal: neither done nor idle
 abbrev pub Refused : Answered → Type 0

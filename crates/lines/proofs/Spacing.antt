@@ -2,39 +2,32 @@
 -- Assumes nothing.
 use mathlib.Core.Path.{◌≡◌, refl, sym, ap, ◌∙◌}
 use mathlib.Core.List.{List, [], ◌∷◌, ◌++◌, append_assoc, append-nil}
-use Prim.Native.Nat.{ℕ, ◌+◌, ◌-◌, ◌*◌, ◌≤◌, ◌<◌}
+use Prim.Native.Nat.{ℕ, ◌+◌, ◌*◌, ◌^◌, ◌≤◌, ◌<◌}
 use native.Mathlib.Numerals.{add-one}
 use native.Mathlib.Omega.{arith}
-use lib.ListN.{length, get_or, set, take, drop, length-set, length-drop}
-use lib.Seq.{take_all, take-suc, take-suc-set, take-length}
+use lib.ListN.{length, get_or, set, take, length-set}
+use lib.Seq.{take-suc, take-suc-set, take-length}
 use Rattle.lines.specs.Text.{space, line_feed, Put}
 use Rattle.lines.specs.Puts.{put_none, put_byte, put_then}
+use Rattle.std.specs.Fmt as library
 use Rattle.lines.specs.Number.{decimal}
-use Rattle.lines.specs.Output.{field_text, field_texts, line_text, Written, Spelt}
+use Rattle.lines.proofs.Digits.{same_decimal, decimal_few}
+use Rattle.lines.specs.Output.{field_text, field_texts, line_text, Written}
 
--- the digits of a text of 20 from a place on, as a part of the array has them
-abbrev pub digits_in : List ℕ → ℕ → List ℕ
-digits_in text from = take (20 - from) (drop from text)
+-- the digits that the library writes, and where they end
+module _ (text : List ℕ) (number : ℕ) (e : text ≡ library.decimal number) (small : number < 2 ^ 64) where
+  written_digits : text ≡ decimal number
+  written_digits = e ∙ same_decimal number small
 
-module _ (text : List ℕ) (from number : ℕ) (s : Spelt text from number) where
-  digits_length : length (drop from text) ≡ 20 - from
-  digits_length = length-drop from text ∙ rw s.places
+  pub number_room : (out : List ℕ) (at : ℕ) → at + 20 ≤ length out → at + length text ≤ length out
+  number_room out at h = rw written_digits (omega (arith, decimal_few number small))
 
-  spelt_digits : digits_in text from ≡ decimal number
-  spelt_digits = take_all (20 - from) (drop from text) (rw digits_length (omega arith)) ∙ s.digits
-
-  digits_few : length (decimal number) ≤ 20
-  digits_few = rw (← s.digits) (rw digits_length (omega arith))
-
-  pub number_room : (out : List ℕ) (at : ℕ) → at + 20 ≤ length out → at + length (digits_in text from) ≤ length out
-  number_room out at h = rw spelt_digits (omega (arith, digits_few))
-
-  module _ (out after : List ℕ) (at end : ℕ) (p : Put out at (digits_in text from) after end) where
+  module _ (out after : List ℕ) (at end : ℕ) (p : Put out at text after end) where
     pub number_put : Put out at (decimal number) after end
-    number_put = rw spelt_digits at p
+    number_put = rw written_digits at p
 
     pub number_end : end ≤ at + 20
-    number_end = omega (arith, number_put.behind, digits_few)
+    number_end = omega (arith, number_put.behind, decimal_few number small)
 
 -- the fields of two lists, one behind the other
 texts_more : (one other : List ℕ) → field_texts (one ++ other) ≡ field_texts one ++ field_texts other

@@ -6,8 +6,8 @@ use Rattle.lines.specs.Text.{before, parts_of}
 use Rattle.lines.specs.Number.{all_digits, value_from, number_of, digits_of, decimal}
 use Rattle.lines.specs.Line.{line_of}
 use Rattle.lines.specs.Output.{field_texts}
-use Rattle.lines.specs.Step.{row_step, opening_step, arrival_step, pick_step, script_step}
-use Rattle.lines.specs.Whole.{no_empty_rest, output_from, program_output}
+use Rattle.lines.specs.Step.{row_step, opening_by, arrival_by, pick_by, step_by}
+use Rattle.lines.specs.Whole.{no_empty_rest, output_by, program_output}
 
 -- "Input lines"
 abbrev pub example_input : List ℕ
@@ -55,5 +55,5 @@ example_output =
 
 pub whole_example : program_output example_input ≡ example_output
 unfolding every_rule before parts_of all_digits value_from number_of digits_of decimal line_of field_texts
-    row_step opening_step arrival_step pick_step script_step no_empty_rest output_from
+    row_step opening_by arrival_by pick_by step_by no_empty_rest output_by
 whole_example = refl

@@ -1,9 +1,7 @@
 -- What a line says: document 01, "The script program".
 -- Assumes nothing.
-use Rattle.std.specs.Prelude.{Bool, false, cond, List, [], ◌∷◌, ℕ, eqb}
+use Rattle.std.specs.Prelude.{Bool, false, cond, List, [], ◌∷◌, ℕ, Option, None, Some, eqb}
 use Rattle.lines.specs.declared.Line.{Line}
-use Rattle.lines.specs.declared.Number.{Number}
-use Rattle.lines.specs.declared.Pair.{Pair}
 use Rattle.lines.specs.Text.{space, parts_of}
 use Rattle.lines.specs.Number.{number_of}
 
@@ -27,41 +25,41 @@ is letter (byte ∷ []) = eqb byte letter
 is letter (byte ∷ other ∷ bytes) = false
 
 -- "`f SHARE LARGEST` adds a table row"
-abbrev pub row_of : Number → Number → Line
-row_of (Number.Value share) (Number.Value largest) = Line.Row share largest
-row_of (Number.Value share) Number.None = Line.Bad
-row_of Number.None largest = Line.Bad
+abbrev pub row_of : Option ℕ → Option ℕ → Option Line
+row_of (Some share) (Some largest) = Some (Line.Row share largest)
+row_of (Some share) None = None
+row_of None largest = None
 
 -- "`a FLOW LENGTH HANDLE`"
-abbrev pub arrival_of : Number → Number → Number → Line
-arrival_of (Number.Value flow) (Number.Value length) (Number.Value handle) = Line.Arrival flow length handle
-arrival_of (Number.Value flow) (Number.Value length) Number.None = Line.Bad
-arrival_of (Number.Value flow) Number.None handle = Line.Bad
-arrival_of Number.None length handle = Line.Bad
+abbrev pub arrival_of : Option ℕ → Option ℕ → Option ℕ → Option Line
+arrival_of (Some flow) (Some length) (Some handle) = Some (Line.Arrival flow length handle)
+arrival_of (Some flow) (Some length) None = None
+arrival_of (Some flow) None handle = None
+arrival_of None length handle = None
 
--- the line of these fields: "`o` opens", "`p`", and those with numbers; any other line is bad
-abbrev pub fields_line : List (List ℕ) → Line
-fields_line [] = Line.Bad
-fields_line (letter ∷ []) = cond (is letter_o letter) Line.Opening (cond (is letter_p letter) Line.Pick Line.Bad)
-fields_line (letter ∷ one ∷ []) = Line.Bad
+-- the line of these fields: "`o` opens", "`p`", and those with numbers; any other line is bad, which is None
+abbrev pub fields_line : List (List ℕ) → Option Line
+fields_line [] = None
+fields_line (letter ∷ []) = cond (is letter_o letter) (Some Line.Opening) (cond (is letter_p letter) (Some Line.Pick) None)
+fields_line (letter ∷ one ∷ []) = None
 fields_line (letter ∷ share ∷ largest ∷ []) =
-    cond (is letter_f letter) (row_of (number_of share) (number_of largest)) Line.Bad
+    cond (is letter_f letter) (row_of (number_of share) (number_of largest)) None
 fields_line (letter ∷ flow ∷ length ∷ handle ∷ []) =
-    cond (is letter_a letter) (arrival_of (number_of flow) (number_of length) (number_of handle)) Line.Bad
-fields_line (letter ∷ one ∷ two ∷ three ∷ four ∷ more) = Line.Bad
+    cond (is letter_a letter) (arrival_of (number_of flow) (number_of length) (number_of handle)) None
+fields_line (letter ∷ one ∷ two ∷ three ∷ four ∷ more) = None
 
 -- what a line says, from its bytes without the line feed
-unfoldable pub line_of : List ℕ → Line
+unfoldable pub line_of : List ℕ → Option Line
 line_of bytes = fields_line (parts_of space bytes)
 
 -- two fields read as numbers, where there are just two
-abbrev pub both_of : Number → Number → Pair
-both_of (Number.Value one) (Number.Value other) = Pair.Both one other
-both_of (Number.Value one) Number.None = Pair.None
-both_of Number.None other = Pair.None
+abbrev pub both_of : Option ℕ → Option ℕ → Option (ℕ × ℕ)
+both_of (Some one) (Some other) = Some (one, other)
+both_of (Some one) None = None
+both_of None other = None
 
-abbrev pub pair_of : List (List ℕ) → Pair
-pair_of [] = Pair.None
-pair_of (one ∷ []) = Pair.None
+abbrev pub pair_of : List (List ℕ) → Option (ℕ × ℕ)
+pair_of [] = None
+pair_of (one ∷ []) = None
 pair_of (one ∷ other ∷ []) = both_of (number_of one) (number_of other)
-pair_of (one ∷ other ∷ third ∷ more) = Pair.None
+pair_of (one ∷ other ∷ third ∷ more) = None

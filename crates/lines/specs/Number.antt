@@ -1,8 +1,7 @@
 -- Numbers as a script has them: read from digits, and written in digits.
 -- Assumes nothing.
-use Rattle.std.specs.Prelude.{Bool, true, cond, ◌&&◌, List, [], ◌∷◌, ◌++◌, ℕ, zero, suc, ◌+◌, ◌-◌, ◌*◌, ◌/◌, ◌%◌, leb, ltb, length}
+use Rattle.std.specs.Prelude.{Bool, true, cond, ◌&&◌, List, [], ◌∷◌, ◌++◌, ℕ, zero, suc, ◌+◌, ◌-◌, ◌*◌, ◌/◌, ◌%◌, Option, None, Some, leb, ltb, length}
 use Rattle.cost.specs.Cost.{within}
-use Rattle.lines.specs.declared.Number.{Number}
 
 -- the byte of a digit
 abbrev pub digit : ℕ → ℕ
@@ -21,13 +20,13 @@ value_from value [] = value
 value_from value (byte ∷ bytes) = value_from (value * 10 + (byte - digit 0)) bytes
 
 -- "numbers have 1 to 10 decimal digits and are at most 4,294,967,295"
-unfoldable pub number_of : List ℕ → Number
+unfoldable pub number_of : List ℕ → Option ℕ
 number_of field =
     cond (within 1 10 (length field))
     (cond (all_digits field)
-    (cond (leb (value_from 0 field) 4294967295) (Number.Value (value_from 0 field)) Number.None)
-    Number.None)
-    Number.None
+    (cond (leb (value_from 0 field) 4294967295) (Some (value_from 0 field)) None)
+    None)
+    None
 
 -- the digits of n, the last digits of it behind at most `more` others
 unfoldable pub digits_of : ℕ → ℕ → List ℕ

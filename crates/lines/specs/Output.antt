@@ -1,6 +1,6 @@
 -- The line that a reply is written as: document 01, "The script program".
 -- Assumes nothing.
-use Rattle.std.specs.Prelude.{◌≡◌, List, [], ◌∷◌, ◌++◌, ℕ, ◌≤◌, ◌<◌, length, take, drop}
+use Rattle.std.specs.Prelude.{◌≡◌, List, [], ◌∷◌, ◌++◌, ℕ, ◌≤◌, length, take}
 use Rattle.reply.specs.Reply.{Reply, idle, done, refused, reply_number, reply_flow}
 use Rattle.lines.specs.Text.{space, line_feed}
 use Rattle.lines.specs.Number.{decimal}
@@ -41,9 +41,3 @@ pub record Written (out : List ℕ) (written : ℕ) (text : List ℕ) : Type 0 w
   pub within : written ≤ length out
   pub short : written ≤ 160
   pub holds : take written out ≡ text
-
--- a number's digits are the last places of a text of 20, from `from` on
-pub record Spelt (text : List ℕ) (from number : ℕ) : Type 0 where
-  pub places : length text ≡ 20
-  pub start : from < 20
-  pub digits : drop from text ≡ decimal number

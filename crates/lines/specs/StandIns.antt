@@ -1,25 +1,25 @@
 -- Wrong readings of a line and a wrong run, each made of the rule itself, and a named input where it leaves the rule.
 -- Assumes nothing.
-use Rattle.std.specs.Prelude.{◌≡◌, refl, cond, List, [], ◌∷◌, map, ℕ, max, ltb, length, replicate}
+use Rattle.std.specs.Prelude.{◌≡◌, refl, cond, List, [], ◌∷◌, map, ℕ, Option, None, Some, max, ltb, length, replicate}
 use Rattle.below.specs.Truth.{apart}
 use Rattle.uplink.specs.Calls.{start}
 use Rattle.lines.specs.declared.Line.{Line}
 use Rattle.lines.specs.Text.{parts_of}
 use Rattle.lines.specs.Number.{all_digits, value_from, number_of}
 use Rattle.lines.specs.Line.{line_of}
-use Rattle.lines.specs.Step.{ScriptState, Made, bad_step, row_step, script_step}
-use Rattle.lines.specs.Whole.{Ended, ended, no_empty_rest, run_lines, run_from}
+use Rattle.lines.specs.Step.{ScriptState, Made, bad_step, row_step, step_by}
+use Rattle.lines.specs.Whole.{Ended, ended, no_empty_rest, lines_by, run_from}
 
 -- 0 where a line is bad
-abbrev said : Line → ℕ
-said (Line.Row share largest) = 1
-said Line.Opening = 2
-said (Line.Arrival flow length handle) = 3
-said Line.Pick = 4
-said Line.Bad = 0
+abbrev said : Option Line → ℕ
+said (Some (Line.Row share largest)) = 1
+said (Some Line.Opening) = 2
+said (Some (Line.Arrival flow length handle)) = 3
+said (Some Line.Pick) = 4
+said None = 0
 
 -- "Fields are parted by one space": by any byte up to the space, and so by a tab
-abbrev pub parts_at_tabs : List ℕ → Line
+abbrev pub parts_at_tabs : List ℕ → Option Line
 parts_at_tabs line = line_of (map (max 32) line)
 
 -- f, a tab, 1, a space, 2
@@ -45,5 +45,5 @@ wants_more_room room s input from = cond (ltb room 320) (ended s from []) (run_f
 
 -- the line x, with room for one line
 pub wants_more_room_differs : wants_more_room 160 rows64 (120 ∷ []) 0 ≡ run_from 160 rows64 (120 ∷ []) 0 → ⊥
-unfolding run_lines no_empty_rest script_step line_of parts_of
+unfolding lines_by no_empty_rest step_by line_of parts_of
 wants_more_room_differs = apart (λ e. e.at) _ _ refl

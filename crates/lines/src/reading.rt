@@ -4,110 +4,69 @@ ghost use Rattle.lines.specs.Text.{space, parts_of};
 ghost use Rattle.lines.specs.Number.{number_of};
 ghost use Rattle.lines.specs.Line.{letter_f, letter_a, pair_of, line_of};
 
-use crate::text::end_from;
-use crate::{Line, Number, Pair};
+use crate::Line;
+use crate::text::cut;
 
 // 1 to 10 decimal digits, at most 4,294,967,295.
-fn number(field: &[u8]) -> Number
+fn number(field: &[u8]) -> Option<u32>
     ensures { result ≡ number_of field.now }
 {
-    if !((1 <= field.len()) & (field.len() <= 10)) {
-        return Number::None;
+    if !(1..=10).contains(&field.len()) {
+        return None;
     }
     let mut value: u64 = 0;
-    let mut at = 0;
-    while at < field.len() {
-        let byte = field[at];
-        if !((48 <= byte) & (byte <= 57)) {
-            return Number::None;
+    for &byte in field {
+        if !byte.is_ascii_digit() {
+            return None;
         }
-        value = value * 10 + (byte - 48) as u64;
-        at += 1;
+        value = value * 10 + u64::from(byte - b'0');
     }
-    if 4294967295 < value {
-        return Number::None;
-    }
-    Number::Value(value as u32)
+    u32::try_from(value).ok()
 }
 
 // Two numbers parted by one space.
-fn pair(text: &[u8]) -> Pair
+#[tactic(auto, using(crate::proofs::Parting::second_none, crate::proofs::Parting::both_read))]
+fn pair(text: &[u8]) -> Option<(u32, u32)>
     ensures { result ≡ pair_of (parts_of space text.now) }
 {
-    let end = end_from(text, 0, b' ');
-    if text.len() <= end {
-        return Pair::None;
-    }
-    let from = end + 1;
-    let first = number(&text[..end]);
-    let Number::Value(one) = first else {
-        return Pair::None;
-    };
-    let second = number(&text[from..]);
-    let Number::Value(other) = second else {
-        return Pair::None;
-    };
-    Pair::Both(one, other)
+    let (first, rest) = cut(text)?;
+    Some((number(first)?, number(rest)?))
 }
 
 // The line of the letter f, a space and this text.
-fn row(text: &[u8]) -> Line
+#[tactic(auto, using(crate::proofs::Parting::row_none, crate::proofs::Parting::row_read))]
+fn row(text: &[u8]) -> Option<Line>
     ensures { result ≡ line_of (letter_f ∷ space ∷ text.now) }
 {
-    let numbers = pair(text);
-    let Pair::Both(share, largest) = numbers else {
-        return Line::Bad;
-    };
-    Line::Row { share, largest }
+    let (share, largest) = pair(text)?;
+    Some(Line::Row { share, largest })
 }
 
 // The line of the letter a, a space and this text.
-fn arrival(text: &[u8]) -> Line
+#[tactic(auto, using(crate::proofs::Parting::arrival_one, crate::proofs::Parting::flow_none, crate::proofs::Parting::packet_none, crate::proofs::Parting::arrival_read))]
+fn arrival(text: &[u8]) -> Option<Line>
     ensures { result ≡ line_of (letter_a ∷ space ∷ text.now) }
 {
-    let end = end_from(text, 0, b' ');
-    if text.len() <= end {
-        return Line::Bad;
-    }
-    let from = end + 1;
-    let first = number(&text[..end]);
-    let Number::Value(flow) = first else {
-        return Line::Bad;
-    };
-    let numbers = pair(&text[from..]);
-    let Pair::Both(length, handle) = numbers else {
-        return Line::Bad;
-    };
-    Line::Arrival {
+    let (first, rest) = cut(text)?;
+    let flow = number(first)?;
+    let (length, handle) = pair(rest)?;
+    Some(Line::Arrival {
         flow,
         length,
         handle,
-    }
+    })
 }
 
-// What a line says.
-pub fn read(line: &[u8]) -> Line
+// What a line says, if it is not bad.
+#[tactic(auto, using(crate::proofs::Letters::line_empty, crate::proofs::Letters::line_opening, crate::proofs::Letters::line_pick, crate::proofs::Letters::line_alone, crate::proofs::Letters::line_unspaced, crate::proofs::Letters::line_other))]
+pub fn read(line: &[u8]) -> Option<Line>
     ensures { result ≡ line_of line.now }
 {
-    let end = end_from(line, 0, b' ');
-    if end != 1 {
-        return Line::Bad;
+    match line {
+        b"o" => Some(Line::Opening),
+        b"p" => Some(Line::Pick),
+        [b'f', b' ', text @ ..] => row(text),
+        [b'a', b' ', text @ ..] => arrival(text),
+        _ => None,
     }
-    let letter = line[0];
-    if line.len() == 1 {
-        if letter == b'o' {
-            return Line::Opening;
-        }
-        if letter == b'p' {
-            return Line::Pick;
-        }
-        return Line::Bad;
-    }
-    if letter == b'f' {
-        return row(&line[2..]);
-    }
-    if letter == b'a' {
-        return arrival(&line[2..]);
-    }
-    Line::Bad
 }

@@ -1,26 +1,33 @@
 // Texts: where a line or a field ends, and a text put behind another.
-ghost use Rattle.std.specs.Prelude.{◌≡◌, ◌+◌, ◌≤◌, length};
-ghost use Rattle.lines.specs.Text.{line_feed, end_from, Put, Collected};
+ghost use Rattle.std.specs.Prelude.{◌≡◌, ◌∷◌, [], ◌+◌, ◌≤◌, length, MatchOption};
+ghost use Rattle.lines.specs.Text.{space, line_feed, before, end_from, parts_of, Put, Collected};
 
-// The first place from `from` on that holds `mark`, or the end where there is none.
-pub(crate) fn end_from(bytes: &[u8], from: usize, mark: u8) -> usize
-    ensures { result ≡ end_from mark bytes.now from }
+// The place of the first byte that is `mark`, or the end where there is none.
+fn before(text: &[u8], mark: u8) -> usize
+    ensures { result ≡ before mark text.now }
 {
-    let mut at = from;
-    while at < bytes.len() {
-        if bytes[at] == mark {
-            return at;
-        }
-        at += 1;
-    }
-    at
+    text.iter()
+        .position(|byte| *byte == mark)
+        .unwrap_or(text.len())
 }
 
 // Where the line that starts at `from` ends: at its line feed, or at the end of the input.
 pub fn line_end(input: &[u8], from: usize) -> usize
     ensures { result ≡ end_from line_feed input.now from }
 {
-    end_from(input, from, b'\n')
+    match input.get(from..) {
+        Some(rest) => from + before(rest, b'\n'),
+        None => from,
+    }
+}
+
+// A text cut at its first space: the field before it, and what stands behind it.
+pub(crate) fn cut(text: &[u8]) -> Option<(&[u8], &[u8])>
+    ensures { MatchOption result (parts_of space text.now ≡ text.now ∷ [])
+        (λ cut. parts_of space text.now ≡ cut.0.now ∷ parts_of space cut.1.now) }
+{
+    let end = text.iter().position(|byte| *byte == b' ')?;
+    Some((&text[..end], &text[end + 1..]))
 }
 
 // Puts a text into a buffer from `at` on, and gives the place behind it.
@@ -28,24 +35,17 @@ pub fn append(out: &mut [u8], at: usize, text: &[u8]) -> usize
     requires { at + length text.now ≤ length out.old }
     ensures { Put out.old at text.now out.new result }
 {
-    let mut i = 0;
-    while i < text.len() {
-        out[at + i] = text[i];
-        i += 1;
-    }
-    at + i
+    let end = at + text.len();
+    out[at..end].copy_from_slice(text);
+    end
 }
 
 // The same for a buffer that may be too full: where the text does not fit, nothing changes and `at` is given back.
 pub fn collect(out: &mut [u8], at: usize, text: &[u8]) -> usize
     ensures { Collected out.old at text.now out.new result }
 {
-    if out.len() < text.len() {
-        return at;
+    match at.checked_add(text.len()) {
+        Some(end) if end <= out.len() => append(out, at, text),
+        _ => at,
     }
-    let room = out.len() - text.len();
-    if room < at {
-        return at;
-    }
-    append(out, at, text)
 }

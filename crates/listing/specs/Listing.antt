@@ -2,15 +2,17 @@
 -- accepted block, and `B refused NUMBER` for a refused one. B is the block's place in the input from 0, E the entry's
 -- from 1. `write_listing` of `src/lib.rt` cites it.
 -- Assumes nothing.
-use Rattle.std.specs.Prelude.{cond, List, [], ◌∷◌, ◌++◌, ℕ, suc, eqb, take}
+use Rattle.std.specs.Prelude.{List, [], ◌∷◌, ◌++◌, ℕ, suc, Option, Some, None, Result, Ok, Err, take}
 use Rattle.lines.specs.Text.{space, line_feed}
 use Rattle.lines.specs.Number.{decimal}
 use Rattle.lines.specs.Output.{field_texts}
 use Rattle.entries.specs.Legal.{kind_of}
 use Rattle.entries.specs.declared.Entry.{Entry}
 use Rattle.entries.specs.declared.Kind.{Kind}
-use Rattle.entries.specs.declared.Kind.TheVariants.{Arrival, Pick, Leap, Idle, Other}
-use Rattle.card.specs.declared.Reading.{Reading}
+use Rattle.entries.specs.declared.Kind.TheVariants.{Arrival, Pick, Leap, Idle}
+use Rattle.card.specs.declared.Block.{Block}
+use Rattle.card.specs.declared.Refusal.{Refusal}
+use Rattle.card.specs.Card.{refusal_number}
 
 -- the block's place, the fields before a word, and the word
 abbrev pub head_text : ℕ → List ℕ → List ℕ → List ℕ
@@ -22,12 +24,12 @@ row_text place before word behind = head_text place before word ++ field_texts b
 
 -- "1 arrival, 2 pick without leap, 3 pick with leap, 4 Idle": the kind's word with the space before it; no entry of an
 -- accepted block is of another kind
-abbrev pub kind_word : Kind → List ℕ
-kind_word Arrival = space ∷ 97 ∷ 114 ∷ 114 ∷ 105 ∷ 118 ∷ 97 ∷ 108 ∷ []
-kind_word Pick = space ∷ 112 ∷ 105 ∷ 99 ∷ 107 ∷ []
-kind_word Leap = space ∷ 108 ∷ 101 ∷ 97 ∷ 112 ∷ []
-kind_word Idle = space ∷ 105 ∷ 100 ∷ 108 ∷ 101 ∷ []
-kind_word Other = space ∷ 111 ∷ 116 ∷ 104 ∷ 101 ∷ 114 ∷ []
+abbrev pub kind_word : Option Kind → List ℕ
+kind_word (Some Arrival) = space ∷ 97 ∷ 114 ∷ 114 ∷ 105 ∷ 118 ∷ 97 ∷ 108 ∷ []
+kind_word (Some Pick) = space ∷ 112 ∷ 105 ∷ 99 ∷ 107 ∷ []
+kind_word (Some Leap) = space ∷ 108 ∷ 101 ∷ 97 ∷ 112 ∷ []
+kind_word (Some Idle) = space ∷ 105 ∷ 100 ∷ 108 ∷ 101 ∷ []
+kind_word None = space ∷ 111 ∷ 116 ∷ 104 ∷ 101 ∷ 114 ∷ []
 
 -- the word `refused`
 abbrev pub refused_word : List ℕ
@@ -50,8 +52,6 @@ entries_lines place number [] = []
 entries_lines place number (e ∷ entries) = entry_line place number e ++ entries_lines place (suc number) entries
 
 -- what a reader found: a line for each entry that is used, or that of the refusal
-unfoldable pub block_lines : ℕ → Reading → List ℕ
-block_lines place reading =
-    cond (eqb reading.refusal 0)
-    (entries_lines place 1 (take reading.block.count reading.block.entries))
-    (refused_line place reading.refusal)
+unfoldable pub block_lines : ℕ → Result Block Refusal → List ℕ
+block_lines place (Ok block) = entries_lines place 1 (take block.count block.entries)
+block_lines place (Err refusal) = refused_line place (refusal_number refusal)

@@ -1,6 +1,6 @@
 -- Worked lines: an arrival, a pick, a leap, an Idle, a block of two entries and a refused block, computed.
 -- Assumes nothing.
-use Rattle.std.specs.Prelude.{◌≡◌, refl, List, [], ◌∷◌, ◌++◌, ℕ, replicate}
+use Rattle.std.specs.Prelude.{◌≡◌, refl, List, [], ◌∷◌, ◌++◌, ℕ, Result, replicate}
 use Rattle.std.proofs.Common.{ap, ◌∙◌, arith}
 use Rattle.lines.proofs.Digits.{decimal_more}
 use Rattle.lines.specs.Number.{digits_of, decimal}
@@ -8,7 +8,9 @@ use Rattle.lines.specs.Output.{field_texts}
 use Rattle.entries.specs.Entry.{no_entry}
 use Rattle.entries.specs.Legal.{kind_of}
 use Rattle.entries.specs.declared.Entry.{Entry}
-use Rattle.card.specs.declared.Reading.{Reading}
+use Rattle.card.specs.declared.Block.{Block}
+use Rattle.card.specs.declared.Refusal.{Refusal}
+use Rattle.card.specs.declared.Refusal.TheVariants.{Sums}
 use Rattle.card.specs.Card.{accepted, refused}
 use Rattle.listing.specs.Listing.{entry_line, entries_lines, block_lines}
 
@@ -77,7 +79,7 @@ unfolding kind_of decimal digits_of field_texts
 idle_row = refl
 
 -- a block of these two entries
-abbrev two : Reading
+abbrev two : Result Block Refusal
 two = accepted (record { number = 0; count = 2; entries = arrival ∷ pick ∷ replicate 29 no_entry })
 
 pub block_row : block_lines 0 two ≡ arrival_text ++ pick_text
@@ -85,7 +87,7 @@ unfolding block_lines entries_lines kind_of decimal digits_of field_texts
 block_row = refl
 
 -- 3 refused 11
-pub refused_row : block_lines 3 (refused 11)
+pub refused_row : block_lines 3 (refused Sums)
     ≡ 51 ∷ 32 ∷ 114 ∷ 101 ∷ 102 ∷ 117 ∷ 115 ∷ 101 ∷ 100 ∷ 32 ∷ 49 ∷ 49 ∷ 10 ∷ []
 unfolding block_lines decimal digits_of field_texts
 refused_row = refl

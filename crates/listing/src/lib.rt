@@ -4,11 +4,13 @@
 // Room: a number has at most 20 digits, so an entry's line has at most 134 bytes and 31 of them have 4,154.
 #![tactic(auto)]
 
-ghost use Rattle.std.specs.Prelude.{◌+◌, ◌*◌, ◌≤◌, length, take};
+ghost use Rattle.std.specs.Prelude.{◌≡◌, ◌+◌, ◌*◌, ◌≤◌, length, take};
 ghost use Rattle.lines.specs.Text.{Put};
-ghost use Rattle.listing.specs.Listing.{head_text, row_text, entry_line, refused_line, entries_lines, block_lines};
+ghost use Rattle.entries.specs.Legal.{kind_of};
+ghost use Rattle.card.specs.Card.{refusal_number};
+ghost use Rattle.listing.specs.Listing.{head_text, row_text, kind_word, entry_line, refused_line, entries_lines, block_lines};
 
-use card::Reading;
+use card::{Block, Refusal};
 use entries::{Entry, Kind};
 
 // The block's place, the fields before a word, and the word with the space before it.
@@ -44,61 +46,61 @@ fn put_row(
     lines::append(out, end, b"\n")
 }
 
-// The line of an entry.
-fn put_entry(out: &mut [u8], at: usize, place: u64, number: u64, entry: Entry) -> usize
-    requires { at + 134 ≤ length out.old }
-    ensures { Put out.old at (entry_line place number entry) out.new result × (result ≤ at + 134) }
+// The word of an entry's kind, with the space before it.
+fn kind_word(number: u8) -> &'static [u8]
+    ensures { (result.now ≡ kind_word (kind_of number)) × (length result.now ≤ 8) }
 {
-    let before = [number];
-    let flow = entry.flow as u64;
-    let length = entry.length as u64;
-    let handle = entry.handle as u64;
-    let behind = [flow, length, handle, entry.clock];
-    let kind = entries::kind_of(entry.kind);
-    match kind {
-        Kind::Arrival => put_row(out, at, place, &before, b" arrival", &behind),
-        Kind::Pick => put_row(out, at, place, &before, b" pick", &behind),
-        Kind::Leap => put_row(out, at, place, &before, b" leap", &behind),
-        Kind::Idle => put_row(out, at, place, &before, b" idle", &behind),
-        Kind::Other => put_row(out, at, place, &before, b" other", &behind),
+    match Kind::try_from(number) {
+        Ok(Kind::Arrival) => b" arrival",
+        Ok(Kind::Pick) => b" pick",
+        Ok(Kind::Leap) => b" leap",
+        Ok(Kind::Idle) => b" idle",
+        Err(_) => b" other",
     }
 }
 
-// The lines of the entries that are used.
-fn put_entries(out: &mut [u8; 4160], place: u64, count: usize, entries: [Entry; 31]) -> usize
-    ensures { Put out.old 0 (entries_lines place 1 (take count entries)) out.new result }
+// The line of an entry.
+fn put_entry(out: &mut [u8], at: usize, place: u64, number: u64, entry: &Entry) -> usize
+    requires { at + 134 ≤ length out.old }
+    ensures { Put out.old at (entry_line place number entry.now) out.new result × (result ≤ at + 134) }
 {
+    let word = kind_word(entry.kind);
+    let behind = [
+        u64::from(entry.flow),
+        u64::from(entry.length),
+        u64::from(entry.handle),
+        entry.clock,
+    ];
+    put_row(out, at, place, &[number], word, &behind)
+}
+
+// The lines of the entries that are used, the first `count` of the 31.
+fn put_entries(out: &mut [u8; 4160], place: u64, count: usize, entries: &[Entry; 31]) -> usize
+    ensures { Put out.old 0 (entries_lines place 1 (take count entries.now)) out.new result }
+{
+    let used = &entries[..count.min(31)];
     let mut at = 0;
-    let mut i: usize = 0;
-    while i < 31 {
-        if count <= i {
-            return at;
-        }
-        let entry = entries[i];
-        at = put_entry(out, at, place, i as u64 + 1, entry);
-        i += 1;
+    for (before, entry) in used.iter().enumerate() {
+        at = put_entry(out, at, place, before as u64 + 1, entry);
     }
     at
 }
 
 // The line of a refused block.
-fn put_refused(out: &mut [u8; 4160], place: u64, number: u32) -> usize
-    ensures { Put out.old 0 (refused_line place number) out.new result }
+fn put_refused(out: &mut [u8; 4160], place: u64, refusal: Refusal) -> usize
+    ensures { Put out.old 0 (refused_line place (refusal_number refusal)) out.new result }
 {
-    let before: [u64; 0] = [];
-    let behind = [number as u64];
-    put_row(out, 0, place, &before, b" refused", &behind)
+    let number = u32::from(refusal);
+    put_row(out, 0, place, &[], b" refused", &[u64::from(number)])
 }
 
 // Writes the lines of what a reader found in the block at this place of the input, and gives their number of bytes.
-pub fn write_listing(place: u64, reading: Reading, out: &mut [u8; 4160]) -> usize
+#[tactic(auto, unfolding(crate::specs::Listing::block_lines))]
+pub fn write_listing(place: u64, reading: Result<Block, Refusal>, out: &mut [u8; 4160]) -> usize
     ensures { Put out.old 0 (block_lines place reading) out.new result }
 {
-    if reading.refusal != 0 {
-        return put_refused(out, place, reading.refusal);
+    match reading {
+        Ok(block) => put_entries(out, place, usize::from(block.count), &block.entries),
+        Err(refusal) => put_refused(out, place, refusal),
     }
-    let block = reading.block;
-    let count = block.count as usize;
-    let entries = block.entries;
-    put_entries(out, place, count, entries)
 }

@@ -14,12 +14,10 @@ fn main(rt: HostRuntime) {
     let mut bytes = [0u8; 512];
     let mut out = [0u8; 4160];
     for place in 0..u64::MAX {
-        let read = console::read_input(&mut stdin, &mut bytes);
-        if read.failed {
+        let Ok(count) = console::read_input(&mut stdin, &mut bytes) else {
             let _ = eprintln!(rt; "logread: standard input failed");
             return;
-        }
-        let count = read.count;
+        };
         if count == 0 {
             return;
         }

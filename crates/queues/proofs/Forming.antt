@@ -3,7 +3,7 @@
 -- Assumes nothing.
 use Rattle.std.proofs.Common.{◌≡◌, ℕ, ◌+◌, ◌-◌, ◌*◌, ◌%◌, ◌^◌, ◌<◌, ◌≤◌, Bool, true, ◌&&◌, eqb, leb, List, length, get_or, take, drop, sym, refl, ap, ◌∙◌, ap₂, arith, length-drop, length-take-le, get_or-drop, get_or-take, eqb-true, le-leb, leb-true}
 use lib.Bits.{bit_or, or_zero_r, or_add_and, and_le_l}
-use Rattle.below.specs.Below.{all_below, all_below_at, all_below_of, all_below_add, all_below_same}
+use Rattle.below.specs.Below.{all_below, all_below_none, all_below_at, all_below_of, all_below_add, all_below_same}
 use Rattle.below.specs.Truth.{same_truth, and_true}
 use Rattle.below.specs.Faults.{fault_turn, not_over}
 use Rattle.cost.specs.Cost.{within, within_of, within_bounds}
@@ -18,25 +18,30 @@ one_test x y high e h l k = same_truth (leb y (high - 1)) (within 1 high x)
     (λ t. let z : y ≤ high - 1 = leb-true y (high - 1) t in within_of 1 high x (omega arith) (omega arith))
     (λ t. let z = within_bounds 1 high x t in le-leb y (high - 1) (omega arith))
 
+-- by how much x less 1 is over `high` less 1 is no fault where x is from 1 to `high`
+pub one_fault : (x high : ℕ) → x < 65536 → 0 < high → high < 65536
+    → eqb ((x + 65535) % 65536 - (high - 1)) 0 ≡ within 1 high x
+one_fault x high h low k = not_over ((x + 65535) % 65536) (high - 1)
+    ∙ one_test x ((x + 65535) % 65536) high (omega arith) (omega arith) low k
+
 -- a turn of the test of a stretch, its fault here added to those before
-pub stretch_turn : (ls : List ℕ) (largest i wrong y here : ℕ) → 0 < largest → largest < 65536 → y < 65536
-    → (y + 1) % 2 ^ 16 ≡ get_or ls i 0 → here ≡ y - (largest - 1)
+pub stretch_turn : (ls : List ℕ) (largest i wrong here : ℕ) → 0 < largest → largest < 65536 → get_or ls i 0 < 65536
+    → here ≡ (get_or ls i 0 + 65535) % 65536 - (largest - 1)
     → eqb wrong 0 ≡ all_below (λ k. within 1 largest (get_or ls k 0)) i
     → eqb (bit_or wrong here) 0 ≡ all_below (λ k. within 1 largest (get_or ls k 0)) (i + 1)
-stretch_turn ls largest i wrong y here low high h e o all =
+stretch_turn ls largest i wrong here low high h o all =
     fault_turn (λ k. within 1 largest (get_or ls k 0)) i wrong here all
-    (ap (λ n. eqb n 0) o ∙ not_over y (largest - 1) ∙ one_test (get_or ls i 0) y largest e h low high)
+    (ap (λ n. eqb n 0) o ∙ one_fault (get_or ls i 0) largest h low high)
 
 -- the same with a fence
-pub eight_turn : (ls fence : List ℕ) (largest i wrong y here : ℕ) → y < 65536 → get_or ls i 0 < 65536
-    → (y + 1) % 2 ^ 16 ≡ get_or ls i 0 → here ≡ y - bit_or (largest - 1) (get_or fence i 0)
+pub eight_turn : (ls fence : List ℕ) (largest i wrong here : ℕ)
+    → here ≡ (get_or ls i 0 + 65535) % 65536 - bit_or (largest - 1) (get_or fence i 0)
     → eqb wrong 0 ≡ all_below (λ k. fenced largest (get_or fence k 0) (get_or ls k 0)) i
     → eqb (bit_or wrong here) 0 ≡ all_below (λ k. fenced largest (get_or fence k 0) (get_or ls k 0)) (i + 1)
 unfolding fenced
-eight_turn ls fence largest i wrong y here h x e o all =
-    let z : (get_or ls i 0 + 65535) % 65536 ≡ y = omega arith in
+eight_turn ls fence largest i wrong here o all =
     fault_turn (λ k. fenced largest (get_or fence k 0) (get_or ls k 0)) i wrong here all
-    (ap (λ n. eqb n 0) o ∙ not_over y (bit_or (largest - 1) (get_or fence i 0)) ∙ rw z refl)
+    (ap (λ n. eqb n 0) o ∙ not_over ((get_or ls i 0 + 65535) % 65536) (bit_or (largest - 1) (get_or fence i 0)))
 
 -- the lengths from place a up to place e, as a slice of the memory holds them
 abbrev pub part : List ℕ → ℕ → ℕ → List ℕ
@@ -126,15 +131,14 @@ fenced_out largest x =
     (omega (arith, or_add_and (largest - 1) 65535, and_le_l (largest - 1) 65535))
 
 -- a short queue in a window of eight: the fence lets through what is past its last packet
-pub short_queue : (largest first waiting f : ℕ) (ls fence : List ℕ) (r : Bool)
+pub short_queue : (largest first waiting f : ℕ) (ls : List ℕ) (r : Bool)
     → 64 * f + 64 ≤ length ls → ((k : ℕ) → get_or ls k 0 < 65536) → first ≤ 56 → waiting ≤ 8 → 0 < largest
     → largest < 65536
-    → fence ≡ fencing
-    → r ≡ all_below (λ k. fenced largest (get_or (part fence (8 - waiting) (8 - waiting + 8)) k 0)
+    → r ≡ all_below (λ k. fenced largest (get_or (part fencing (8 - waiting) (8 - waiting + 8)) k 0)
     (get_or (part ls (64 * f + first) (64 * f + first + 8)) k 0)) 8
     → r ≡ lengths_formed f ls largest first waiting
 unfolding lengths_formed
-short_queue largest first waiting f ls fence r room small begun few low high same e =
+short_queue largest first waiting f ls r room small begun few low high e =
     e ∙ all_below_same _ both 8 each ∙ ap (all_below both) split ∙ all_below_add both waiting (8 - waiting)
     ∙ ap₂ ◌&&◌ (all_below_same both good waiting front) (all_below_of _ (8 - waiting) back)
     ∙ and_true (all_below good waiting)
@@ -149,10 +153,10 @@ short_queue largest first waiting f ls fence r room small begun few low high sam
     split = omega arith
 
     each : (k : ℕ) → k < 8
-        → fenced largest (get_or (part fence (8 - waiting) (8 - waiting + 8)) k 0)
+        → fenced largest (get_or (part fencing (8 - waiting) (8 - waiting + 8)) k 0)
         (get_or (part ls (64 * f + first) (64 * f + first + 8)) k 0) ≡ both k
-    each k h = rw same (ap₂ (fenced largest) (part_at fencing (8 - waiting) (8 - waiting + 8) k (omega arith))
-        (part_at ls (64 * f + first) (64 * f + first + 8) k (omega arith)))
+    each k h = ap₂ (fenced largest) (part_at fencing (8 - waiting) (8 - waiting + 8) k (omega arith))
+        (part_at ls (64 * f + first) (64 * f + first + 8) k (omega arith))
 
     front : (k : ℕ) → k < waiting → both k ≡ good k
     front k h =
@@ -164,3 +168,12 @@ short_queue largest first waiting f ls fence r room small begun few low high sam
     back k h = ap (λ n. fenced largest (get_or fencing n 0) (get_or ls (64 * f + first + (waiting + k)) 0)) (omega arith)
         ∙ ap (λ n. fenced largest n (get_or ls (64 * f + first + (waiting + k)) 0)) (fence_high k (omega arith))
         ∙ fenced_out largest (get_or ls (64 * f + first + (waiting + k)) 0)
+
+pub all_none : (p : ℕ → Bool) → true ≡ all_below p 0
+all_none p = sym (all_below_none p)
+
+-- what each way through the test of a stretch gives
+pub ruleset stretch_ways = (all_none, stretch_turn)
+
+-- what each way through the test of a long queue gives
+pub ruleset ring_ways = (full_ring, one_stretch, two_stretches)

@@ -1,48 +1,77 @@
--- What each way through the queue's side of an opening gives: the cleared memories, the table's reply flow by flow, and
--- the 64 entries of a list.
+-- What each way through the queue's side of an opening gives: refusals 1 and 3, and the table's reply flow by flow.
 -- Assumes nothing.
-use Rattle.std.proofs.Common.{◌≡◌, ℕ, suc, ◌+◌, ◌-◌, ◌*◌, ◌<◌, ◌≤◌, Bool, true, false, cond, not, ◌&&◌, eqb, leb, List, [], ◌++◌, length, get_or, take, drop, set, replicate, sym, refl, ap, ◌∙◌, ap₂, append-nil, add-one, arith, length-drop, length-set, take-append-drop, get_or-drop, ext_get_or, eqb-true, le-leb}
+use Rattle.std.proofs.Common.{zero-add, Iter, Bor, Option, Some, None, ◌≡◌, ℕ, suc, ◌+◌, ◌-◌, ◌*◌, ◌<◌, ◌≤◌, Bool, true, false, cond, not, ◌&&◌, eqb, leb, List, [], length, get_or, sym, ap, ◌∙◌, ap₂, add-one, arith, eqb-true, le-leb}
 use native.Mathlib.Nat.{sub-zero}
-use lib.ListN.{length-replicate, get_or-replicate, get_or-eq_default}
-use lib.Seq.{drop-length}
-use borrow.Author.Fill.{fill_none, fill_more}
 use borrow.Author.Tests.{not-true, not-false, lt-leb}
+use Rattle.std.specs.List.{enumerate_from, zip}
+use Rattle.std.proofs.lemmas.List.FromFn.{length-enumerate_from, get_or-enumerate_from}
+use Rattle.std.proofs.lemmas.Slice.Zip.{length-zip, get_or-zip}
+use Rattle.std.specs.declared.iter.Enumerate.{Enumerate}
+use Rattle.std.specs.declared.iter.Zip.{Zip}
+use Rattle.std.specs.Iterator.{Yields}
+use Rattle.std.specs.Iterator.Adapters.{enumerate_steps}
+use Rattle.std.proofs.iter.Yields.{fronts}
+use Rattle.std.proofs.lemmas.Iterator.{zips, YieldsList, YieldsList-from_slice, YieldsList-from_zip}
+use Rattle.std.proofs.lemmas.Iterator.Consumers.{YieldsList-from_enumerate, YieldsList-turn, YieldsList-end}
+use Rattle.std.proofs.lemmas.List.{get_or_default}
 use Rattle.below.specs.Below.{sum_below_none, sum_below_more}
-use Rattle.below.specs.Copied.{Copied, copied_none, copied_more}
 use Rattle.below.specs.Truth.{both_true}
 use Rattle.cost.specs.Cost.{within, within_bounds}
 use Rattle.reply.specs.Reply.{Reply, done, refused}
 use Rattle.queues.specs.Queue.{Queue}
 use Rattle.queues.specs.Queues.{shares_of}
 use Rattle.queues.specs.Places.{lent}
-use Rattle.queues.specs.Opening.{field64, new_queues, paired, fault_from, table_reply, lists_reply}
-use Rattle.queues.specs.Laws.{field_at, field_length, opened_at}
+use Rattle.queues.specs.Opening.{new_queues, paired, fault_from, table_reply, lists_reply}
+use Rattle.queues.specs.Laws.{opened_at}
 
--- a memory d of which the first `at` places have been set to 0
-pub record Cleared (d : List ℕ) (at : ℕ) (memory : List ℕ) : Type 0 where
-  pub reached : at ≤ length d
-  pub same : length memory ≡ length d
-  pub filled : memory ≡ replicate at 0 ++ drop at d
+-- the table's turns: each flow's number, share and largest packet
+abbrev pub turns : List ℕ → List ℕ → List (ℕ × (ℕ × ℕ))
+turns shares largest = enumerate_from 0 (zip shares largest)
 
-pub cleared_none : (d : List ℕ) → Cleared d 0 d
-cleared_none d = record { reached = omega arith; same = refl; filled = fill_none d 0 }
+-- what a turn has is the flow's
+pub record Turn (shares largest : List ℕ) (n f share packet : ℕ) : Type 0 where
+  pub below : n < length shares
+  pub flow : f ≡ n
+  pub share_is : share ≡ get_or shares n 0
+  pub packet_is : packet ≡ get_or largest n 0
 
-pub cleared_more : (d : List ℕ) (at : ℕ) (memory : List ℕ) → Cleared d at memory → at < length memory
-    → Cleared d (at + 1) (set memory at 0)
-cleared_more d at memory m h =
+pub turn_of : (shares largest : List ℕ) (n f share packet : ℕ) → length shares ≡ length largest
+    → (n < length (turns shares largest))
+    × ((f, (share, packet)) ≡ get_or (turns shares largest) n (f, (share, packet)))
+    → Turn shares largest n f share packet
+turn_of shares largest n f share packet same (h, e) =
+    let all : length (turns shares largest) ≡ length shares =
+    length-enumerate_from 0 (zip shares largest) ∙ length-zip shares largest ∙ omega arith in
+    let few : n < length shares = omega arith in
+    let pair : (f, (share, packet)) ≡ (n, (get_or shares n share, get_or largest n packet)) =
+    e ∙ get_or-enumerate_from 0 (zip shares largest) n (f, (share, packet)) (omega (arith, length-zip shares largest))
+    ∙ ap₂ (λ i (p : ℕ × ℕ). (i, p)) (zero-add n) (get_or-zip shares largest n (share, packet) few (omega arith)) in
     record {
-      reached = omega arith;
-      same = length-set memory at 0 ∙ m.same;
-      filled = ap (λ l. set l at 0) m.filled ∙ fill_more at 0 d (omega arith);
+      below = few;
+      flow = ap (λ (p : ℕ × (ℕ × ℕ)). p.0) pair;
+      share_is = ap (λ (p : ℕ × (ℕ × ℕ)). p.1.0) pair ∙ get_or_default shares n share 0 few;
+      packet_is = ap (λ (p : ℕ × (ℕ × ℕ)). p.1.1) pair ∙ get_or_default largest n packet 0 (omega arith);
     }
 
-pub cleared_all : (d : List ℕ) (at : ℕ) (memory : List ℕ) → Cleared d at memory → length memory ≤ at
-    → memory ≡ replicate (length d) 0
-cleared_all d at memory m h =
-    let e : at ≡ length d = omega arith in m.filled ∙ rw (e, drop-length, append-nil)
+-- the loop over the table, begun at s
+module _ (shares largest : List ℕ) (s : Enumerate (Zip (Iter ℕ) (Iter ℕ))) (first : s.iter.a.rest.now ≡ shares)
+    (second : s.iter.b.rest.now ≡ largest) (none : s.count ≡ 0) (same : length shares ≡ length largest)
+    (xs : List (ℕ × (Bor ℕ × Bor ℕ))) (t u : Enumerate (Zip (Iter ℕ) (Iter ℕ)))
+    (so_far : Yields (enumerate_steps (zips fronts fronts)) s xs t) (r : Option (ℕ × (Bor ℕ × Bor ℕ)))
+    (step : enumerate_steps (zips fronts fronts) t r u) where
+  road : YieldsList (enumerate_steps (zips fronts fronts)) (λ p. (p.0, (p.1.0.now, p.1.1.now))) s (turns shares largest)
+  road = YieldsList-from_enumerate
+      (YieldsList-from_zip (YieldsList-from_slice shares first) (YieldsList-from_slice largest second)) none
 
-pub share_most : (n : ℕ) → not (within 1 1000 n) ≡ false → n ≤ 1000
-share_most n e = (within_bounds 1 1000 n (not-false (within 1 1000 n) e)).1
+  -- each turn of it
+  pub turn_here : (x : ℕ × (Bor ℕ × Bor ℕ)) → r ≡ Some x → Turn shares largest (length xs) x.0 x.1.0.now x.1.1.now
+  turn_here x is = turn_of shares largest (length xs) x.0 x.1.0.now x.1.1.now same
+      (YieldsList-turn road xs t so_far r u x is step)
+
+  -- and its end
+  pub turns_end : r ≡ None → length xs ≡ length shares
+  turns_end is = (YieldsList-end road xs t so_far r u is step).1 ∙ length-enumerate_from 0 (zip shares largest)
+      ∙ length-zip shares largest ∙ omega arith
 
 -- the flows before f are in range, and `sum` is the sum of their shares
 pub record Passed (shares largest : List ℕ) (sum f : ℕ) : Type 0 where
@@ -80,80 +109,41 @@ module _ (shares largest : List ℕ) where
   sum_more sum f e h =
       ap₂ ◌+◌ e (sym (ap (λ (w : Queue). w.share) (opened_at shares largest f h))) ∙ sym (sum_below_more _ f)
 
-  pub passed_more : (sum f : ℕ) → Passed shares largest sum f → length shares ≤ 64 → f < length shares
-      → not (in_share shares f) ≡ false → not (in_largest largest f) ≡ false
-      → Passed shares largest (sum + get_or shares f 0) (f + 1)
-  passed_more sum f p few h s l =
-      record {
-        reached = omega arith;
-        faults = p.faults ∙ fault_at f h ∙ rw (not-false (in_share shares f) s, not-false (in_largest largest f) l);
-        summed = sum_more sum f p.summed (omega arith);
-        small = omega (arith, share_most (get_or shares f 0) s);
-      }
+  -- a turn of the loop over the table, with what it finds
+  module _ (sum n : ℕ) (p : Passed shares largest sum n) (f share packet : ℕ)
+      (t : Turn shares largest n f share packet) where
+    pub passed_more : length shares ≤ 64 → within 1 1000 share ≡ true → within 1 1500 packet ≡ true
+        → Passed shares largest (sum + share) (n + 1)
+    passed_more few s l =
+        record {
+          reached = omega (arith, t.below);
+          faults = p.faults ∙ fault_at n t.below ∙ rw (← t.share_is, s, ← t.packet_is, l);
+          summed = ap (λ q. sum + q) t.share_is ∙ sum_more sum n p.summed (omega (arith, t.below));
+          small = omega (arith, p.small, within_bounds 1 1000 share s);
+        }
 
-  pub share_refused : (sum f : ℕ) → Passed shares largest sum f → f < length shares
-      → not (in_share shares f) ≡ true → refused 4 f ≡ table_reply shares largest
-  unfolding table_reply
-  share_refused sum f p h s = rw (p.faults, fault_at f h, not-true (in_share shares f) s)
+    pub share_refused : within 1 1000 share ≡ false → refused 4 f ≡ table_reply shares largest
+    unfolding table_reply
+    share_refused s = rw (t.flow, p.faults, fault_at n t.below, ← t.share_is, s)
 
-  pub largest_refused : (sum f : ℕ) → Passed shares largest sum f → f < length shares
-      → not (in_share shares f) ≡ false → not (in_largest largest f) ≡ true
-      → refused 5 f ≡ table_reply shares largest
-  unfolding table_reply
-  largest_refused sum f p h s l =
-      rw (p.faults, fault_at f h, not-false (in_share shares f) s, not-true (in_largest largest f) l)
+    pub largest_refused : within 1 1000 share ≡ true → within 1 1500 packet ≡ false
+        → refused 5 f ≡ table_reply shares largest
+    unfolding table_reply
+    largest_refused s l = rw (t.flow, p.faults, fault_at n t.below, ← t.share_is, s, ← t.packet_is, l)
 
   -- all flows passed
-  passed_all : (sum f : ℕ) → Passed shares largest sum f → length shares ≤ f
+  passed_all : (sum f : ℕ) → Passed shares largest sum f → f ≡ length shares
       → table_reply shares largest ≡ cond (leb sum 1000) (done []) (refused 6 0)
   unfolding table_reply fault_from
-  passed_all sum f p h = let e : f ≡ length shares = omega arith in
-      let d : length shares - f ≡ 0 = omega arith in rw (p.faults, d, ← e, ← p.summed)
+  passed_all sum f p e = let d : length shares - f ≡ 0 = omega arith in rw (p.faults, d, ← e, ← p.summed)
 
-  pub sum_refused : (sum f : ℕ) → Passed shares largest sum f → length shares ≤ f → 1000 < sum
+  pub sum_refused : (sum f : ℕ) → Passed shares largest sum f → f ≡ length shares → 1000 < sum
       → refused 6 0 ≡ table_reply shares largest
   sum_refused sum f p h l = rw (passed_all sum f p h, lt-leb sum 1000 l)
 
-  pub table_done : (sum f : ℕ) → Passed shares largest sum f → length shares ≤ f → sum ≤ 1000
+  pub table_done : (sum f : ℕ) → Passed shares largest sum f → f ≡ length shares → sum ≤ 1000
       → done [] ≡ table_reply shares largest
   table_done sum f p h l = rw (passed_all sum f p h, le-leb sum 1000 l)
-
--- the first n of the 64 entries of a list, with the others all zeros
-pub record Booked (list : List ℕ) (n : ℕ) (entries : List ℕ) : Type 0 where
-  pub reached : n ≤ length list
-  pub entered : Copied (field64 list) (replicate 64 0) n entries
-
-module _ (list : List ℕ) where
-  all_64 : length (field64 list) ≡ length {A = ℕ} (replicate 64 0)
-  all_64 = field_length list ∙ sym (length-replicate {A = ℕ} 64 0)
-
-  pub booked_none : Booked list 0 (replicate 64 0)
-  booked_none = record { reached = omega arith; entered = copied_none (field64 list) (replicate 64 0) all_64 }
-
-  pub booked_more : (n : ℕ) (entries : List ℕ) → Booked list n entries → length list ≤ 64 → n < length list
-      → Booked list (n + 1) (set entries n (get_or list n 0))
-  booked_more n entries b few h =
-      record {
-        reached = omega arith;
-        entered = rw (← field_at list n (omega arith))
-            (copied_more (field64 list) (replicate 64 0) all_64 n entries 0
-            (rw field_length (omega arith)) b.entered);
-      }
-
-  -- past the end of the list every entry is 0
-  after : (n k : ℕ) → n ≡ length list → n + k < 64 → get_or (field64 list) (n + k) 0 ≡ 0
-  after n k e h = field_at list (n + k) h ∙ get_or-eq_default list 0 {n = n + k} (omega arith)
-
-  pub booked_all : (n : ℕ) (entries : List ℕ) → Booked list n entries → length list ≤ 64 → length list ≤ n
-      → entries ≡ field64 list
-  booked_all n entries b few h = let e : n ≡ length list = omega (arith, b.reached) in
-      b.entered.so_far ∙ ap (λ l. take n (field64 list) ++ l)
-      (sym (ext_get_or 0 (drop n (field64 list)) (drop n (replicate 64 0))
-      (simp (length-drop, field_length))
-      (λ k u. let v : k < 64 - n = rw (length-drop, field_length) at u in
-      get_or-drop n (field64 list) k 0 ∙ after n k e (omega arith)
-      ∙ sym (get_or-drop n (replicate 64 0) k 0 ∙ get_or-replicate 64 (n + k) 0 0 (omega arith)))))
-      ∙ rw take-append-drop
 
 -- the ways through 1, 3 and the table's reply
 module _ (shares largest : List ℕ) (header : ℕ) (lengths handles : List ℕ) where
@@ -179,3 +169,6 @@ paired_lists shares largest header e =
     (not-false (paired shares largest header) e)).0 in
     let b = both_true (eqb (length shares) (length largest)) _ pair in
     (eqb-true _ _ b.0, (within_bounds 1 64 (length shares) b.1).1)
+
+-- what each way through an opening gives
+pub ruleset opening_ways = (unlent, unpaired, as_the_table, paired_lists)

@@ -1,13 +1,11 @@
--- What each way through an arrival's queue side gives, and what storing and freeing a place do.
+-- What each way through an arrival's queue side gives.
 -- Assumes nothing.
-use Rattle.std.proofs.Common.{◌≡◌, ℕ, ◌<◌, ◌≤◌, Bool, true, false, ◌||◌, ltb, List, [], get_or, set, refl, ltb-false, ltb-true, le-ltb, lt-ltb, le-leb}
+use Rattle.std.proofs.Common.{◌≡◌, ℕ, ◌<◌, ◌≤◌, Bool, true, false, ◌||◌, ltb, [], refl, ltb-false, ltb-true, le-ltb, lt-ltb, le-leb}
 use borrow.Author.Tests.{lt-leb}
 use Rattle.below.specs.Truth.{true_false}
 use Rattle.cost.specs.Cost.{within, within_of}
 use Rattle.reply.specs.Reply.{done, refused}
-use Rattle.queues.specs.Queue.{place_of}
-use Rattle.queues.specs.Places.{join_reply, freed_of}
-use Rattle.queues.specs.declared.places.Freed.{Freed}
+use Rattle.queues.specs.Places.{join_reply}
 
 outside : (n most : ℕ) → (ltb n 1 || ltb most n) ≡ true → within 1 most n ≡ false
 outside n most e = go (ltb n 1) refl
@@ -45,20 +43,3 @@ module _ (flows f n largest waiting : ℕ) where
 
 -- what each way through refusals 7, 8 and 9 gives
 pub ruleset joining = (no_flow_lem, bad_length, full, taken)
-
--- a place set in both memories
-pub stored : (lengths handles : List ℕ) (at place bytes handle : ℕ) → at ≡ place
-    → (set lengths at bytes ≡ set lengths place bytes) × (set handles at handle ≡ set handles place handle)
-stored lengths handles at place bytes handle e = (rw e, rw e)
-
-abbrev freed : List ℕ → List ℕ → ℕ → ℕ → Freed
-freed lengths handles front next =
-    record { length = get_or lengths front 0; handle = get_or handles front 0; behind = get_or lengths next 0 }
-
--- the front packet, and its place freed
-pub free_front : (lengths handles : List ℕ) (f first front next : ℕ) → front ≡ place_of f first 0
-    → next ≡ place_of f first 1
-    → (freed lengths handles front next ≡ freed_of f first lengths handles)
-    × (set lengths front 0 ≡ set lengths (place_of f first 0) 0)
-    × (set handles front 0 ≡ set handles (place_of f first 0) 0)
-free_front lengths handles f first front next a b = (rw (a, b), rw a, rw a)

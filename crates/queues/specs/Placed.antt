@@ -1,16 +1,19 @@
 -- What holds where queues are looked at and where a table is opened: the facts that the checks before it leave.
 -- Assumes nothing.
-use Rattle.std.specs.Prelude.{ℕ, ◌<◌, ◌≤◌, List, length, slice_index, slice_index_or}
+use Rattle.std.specs.Prelude.{ℕ, ◌<◌, ◌≤◌, List, length, slice_index}
+use Rattle.queues.specs.Queue.{Queue}
+use Rattle.queues.specs.Queues.{queue_at}
+use Rattle.queues.specs.declared.Queues.{Queues}
 
--- flow f's places are its own, and some length fits it
-pub record Kept (largest first waiting : List ℕ) (f : ℕ) : Type 0 where
-  pub largest_low : 0 < slice_index largest f
-  pub first_below : slice_index_or first f 0 < 64
-  pub waiting_most : slice_index_or waiting f 0 ≤ 64
+-- the queue's places are its own, and some length fits it
+pub record Kept (w : Queue) : Type 0 where
+  pub largest_low : 0 < w.largest
+  pub first_below : w.first < 64
+  pub waiting_most : w.waiting ≤ 64
 
 -- so of the first n flows
-pub record Placed (largest first waiting : List ℕ) (n : ℕ) : Type 0 where
-  pub each : (f : ℕ) → f < n → Kept largest first waiting f
+pub record Placed (q : Queues) (n : ℕ) : Type 0 where
+  pub each : (f : ℕ) → f < n → Kept (queue_at q f)
 
 -- the first n entries are shares
 pub record Shared (share : List ℕ) (n : ℕ) : Type 0 where

@@ -3,7 +3,6 @@
 -- Assumes nothing.
 use Rattle.std.specs.Prelude.{◌≡◌, ℕ, ◌<◌, ◌≤◌, true, List, length, slice_index_or}
 use Rattle.std.proofs.Common.{arith}
-use Rattle.cost.specs.Cost.{costs}
 use Rattle.queues.specs.Queue.{place_of}
 use Rattle.queues.specs.Queues.{queue_at}
 use Rattle.queues.specs.Form.{ranged, queue_formed}
@@ -11,7 +10,7 @@ use Rattle.queues.specs.Laws.{ranged_out, queue_at_lem}
 use Rattle.queues.specs.declared.Queues.{Queues}
 
 -- a packet of n bytes is stored at flow f
-pub record Storable (q : Queues) (f n : ℕ) (table lengths handles : List ℕ) : Type 0 where
+pub record Storable (q : Queues) (f n : ℕ) (lengths handles : List ℕ) : Type 0 where
   pub flow : f < 64
   pub lengths_lent : length lengths ≡ 4096
   pub handles_lent : length handles ≡ 4096
@@ -19,10 +18,9 @@ pub record Storable (q : Queues) (f n : ℕ) (table lengths handles : List ℕ) 
   pub short : n ≤ 1500
   pub share_low : 1 ≤ (queue_at q f).share
   pub share_high : (queue_at q f).share ≤ 1000
-  pub table_right : table ≡ costs
 
 -- the front packet of flow f goes
-pub record Servable (q : Queues) (header f : ℕ) (table lengths handles : List ℕ) : Type 0 where
+pub record Servable (q : Queues) (header f : ℕ) (lengths handles : List ℕ) : Type 0 where
   pub flow : f < 64
   pub lengths_lent : length lengths ≡ 4096
   pub handles_lent : length handles ≡ 4096
@@ -31,14 +29,13 @@ pub record Servable (q : Queues) (header f : ℕ) (table lengths handles : List 
   pub short : slice_index_or lengths (place_of f (queue_at q f).first 0) 0 ≤ 1500
   pub share_low : 1 ≤ (queue_at q f).share
   pub share_high : (queue_at q f).share ≤ 1000
-  pub table_right : table ≡ costs
   pub header_low : header ≤ 64
 
-module _ (q : Queues) (f : ℕ) (table lengths handles : List ℕ) (right : table ≡ costs)
+module _ (q : Queues) (f : ℕ) (lengths handles : List ℕ)
     (lend : (length lengths ≡ 4096) × (length handles ≡ 4096)) (few : f < 64)
     (range : ranged (queue_at q f) ≡ true) where
   pub storable : (n : ℕ) → n ≤ (queue_at q f).largest → (queue_at q f).waiting < 64
-      → Storable q f n table lengths handles
+      → Storable q f n lengths handles
   storable n short room = let R = ranged_out (queue_at q f) range in
       record {
         flow = few;
@@ -48,11 +45,10 @@ module _ (q : Queues) (f : ℕ) (table lengths handles : List ℕ) (right : tabl
         short = omega (arith, short, R.largest_high);
         share_low = R.share_low;
         share_high = R.share_high;
-        table_right = right;
       }
 
   pub servable : (header : ℕ) → header ≤ 64 → queue_formed f lengths (queue_at q f) ≡ true → 0 < (queue_at q f).waiting
-      → Servable q header f table lengths handles
+      → Servable q header f lengths handles
   servable header low queue waits = let R = ranged_out (queue_at q f) range in
       record {
         flow = few;
@@ -63,6 +59,5 @@ module _ (q : Queues) (f : ℕ) (table lengths handles : List ℕ) (right : tabl
         short = omega (arith, (queue_at_lem f lengths (queue_at q f) queue 0 waits).1, R.largest_high);
         share_low = R.share_low;
         share_high = R.share_high;
-        table_right = right;
         header_low = low;
       }

@@ -1,139 +1,74 @@
 // What document 01's form asks of the queue's side: bookings and queues of the flows that count, and zeros past them.
-ghost use Rattle.std.specs.Prelude.{◌≡◌, ◌<◌, ◌≤◌, length, slice_index};
+ghost use Rattle.std.specs.Prelude.{◌≡◌, ◌<◌, ◌≤◌, length, slice_index, sum};
 ghost use Rattle.below.specs.Below.{all_below, sum_below};
-ghost use Rattle.cost.specs.Cost.{costs};
-ghost use Rattle.queues.specs.Queues.{queues_of, queue_at};
-ghost use Rattle.queues.specs.Form.{ranged, lengths_formed, queues_spare, queue_side};
+ghost use Rattle.queues.specs.Queues.{queue_at};
+ghost use Rattle.queues.specs.Form.{ranged, queue_formed, queues_spare, queue_side};
 ghost use Rattle.queues.specs.Placed.{Placed};
 
-use crate::{lengths, opening};
+use crate::Queues;
 
-// Share and largest packet, first place and number waiting of each flow in their ranges.
-fn ranges_ok<'a>(
-    flows: u32,
-    share: &'a [u16; 64],
-    largest: &'a [u16; 64],
-    first: &'a [u16; 64],
-    waiting: &'a [u16; 64],
-) -> bool
-    requires { flows ≤ 64 }
-    ensures { result ≡ all_below (λ f. ranged (queue_at (queues_of share.now largest.now
-        first.now waiting.now) f)) flows }
+// The sum of the shares of some flows.
+fn total(shares: &[u16]) -> u32
+    requires { length shares.now ≤ 64 }
+    ensures { result ≡ sum shares.now }
 {
-    let end = flows as usize;
-    let mut wrong: u16 = 0;
-    let mut at: usize = 0;
-    while at < end {
-        let q = lengths::over(std::num::wrapping_sub_u16(share[at], 1), 999);
-        let bytes = lengths::over(std::num::wrapping_sub_u16(largest[at], 1), 1499);
-        wrong = wrong
-            | ((q | bytes) | (lengths::over(first[at], 63) | lengths::over(waiting[at], 64)));
-        at += 1;
-    }
-    wrong == 0
+    shares.iter().map(|share| u32::from(*share)).sum()
 }
 
-// A 16-bit number in 32 bits: what is read from a lent array is bounded for its reader.
-fn wide(x: u16) -> u32
-    ensures { (result ≡ x) × (result < 65536) }
-{
-    x as u32
-}
-
-// The sum of the shares.
-fn sum_of(flows: u32, share: &[u16; 64]) -> u32
-    requires { flows ≤ 64 }
-    ensures { result ≡ sum_below (λ f. slice_index share.now f) flows }
-{
-    let end = flows as usize;
-    let mut sum: u32 = 0;
-    let mut at: usize = 0;
-    while at < end {
-        sum = sum + wide(share[at]);
-        at += 1;
-    }
-    sum
-}
-
-// Every waiting length of every flow.
-fn lengths_ok<'a>(
-    flows: u32,
-    largest: &'a [u16; 64],
-    first: &'a [u16; 64],
-    waiting: &'a [u16; 64],
-    lengths: &[u16],
-) -> bool
-    requires flows_bound { (flows ≤ 64) × (length lengths.now ≡ 4096) }
-    requires placed { Placed largest.now first.now waiting.now flows }
-    ensures { result ≡ all_below (λ f. lengths_formed f lengths.now (slice_index largest.now f)
-        (slice_index first.now f) (slice_index waiting.now f)) flows }
-{
-    let fence = lengths::FENCE;
-    let mut f: u32 = 0;
-    while f < flows {
-        let at = f as usize;
-        if !lengths::queue_ok(f, largest[at], first[at], waiting[at], lengths, &fence) {
-            return false;
+impl Queues {
+    // Share and largest packet, first place and number waiting of each flow in their ranges.
+    #[tactic(auto, using(crate::proofs::Testing::loop_ways))]
+    fn ranges_ok(&self, flows: u32) -> bool
+        requires { flows ≤ 64 }
+        ensures { result ≡ all_below (λ f. ranged (queue_at self.now f)) flows }
+    {
+        // An index: four arrays are looked at side by side, and a `zip` of four is no plainer.
+        let mut wrong: u16 = 0;
+        for at in 0..flows as usize {
+            let share = self.share[at].wrapping_sub(1).saturating_sub(999);
+            let largest = self.largest[at].wrapping_sub(1).saturating_sub(1499);
+            let first = self.first[at].saturating_sub(63);
+            let waiting = self.waiting[at].saturating_sub(64);
+            wrong |= (share | largest) | (first | waiting);
         }
-        f += 1;
+        wrong == 0
     }
-    true
-}
 
-// All fields of the flows beyond the number of flows are 0.
-fn rest_ok<'a>(
-    flows: u32,
-    share: &'a [u16; 64],
-    largest: &'a [u16; 64],
-    first: &'a [u16; 64],
-    waiting: &'a [u16; 64],
-) -> bool
-    requires { flows ≤ 64 }
-    ensures { result ≡ queues_spare flows (queues_of share.now largest.now first.now
-        waiting.now) }
-{
-    let mut any: u16 = 0;
-    let mut at = flows as usize;
-    while at < 64 {
-        any = any | ((share[at] | largest[at]) | (first[at] | waiting[at]));
-        at += 1;
+    // Every waiting length of every flow.
+    #[tactic(auto, using(crate::proofs::Testing::loop_ways))]
+    fn lengths_ok(&self, flows: u32, lengths: &[u16]) -> bool
+        requires flows_bound { (flows ≤ 64) × (length lengths.now ≡ 4096) }
+        requires placed { Placed self.now flows }
+        ensures { result ≡ all_below (λ f. queue_formed f lengths.now (queue_at self.now f)) flows }
+    {
+        (0..flows).all(|f| self.queue_ok(f, lengths))
     }
-    any == 0
-}
 
-// The queue's side of a record is well formed, with this memory of lengths. Any numbers may be handed in.
-#[tactic(auto, using(crate::proofs::Testing::side_ways))]
-pub fn are_formed<'a>(
-    table: &[u32; 1000],
-    flows: u32,
-    header: u16,
-    width: u32,
-    share: &'a [u16; 64],
-    largest: &'a [u16; 64],
-    first: &'a [u16; 64],
-    waiting: &'a [u16; 64],
-    lengths: &[u16],
-) -> bool
-    requires { (length lengths.now ≡ 4096) × (table.now ≡ costs) }
-    ensures { result ≡ queue_side flows header width (queues_of share.now largest.now
-        first.now waiting.now) lengths.now }
-{
-    if flows < 1 {
-        return false;
+    // All fields of the flows beyond the number of flows are 0.
+    #[tactic(auto, using(crate::proofs::Testing::loop_ways), unfolding(crate::specs::Form::queues_spare))]
+    fn rest_ok(&self, flows: u32) -> bool
+        requires { flows ≤ 64 }
+        ensures { result ≡ queues_spare flows self.now }
+    {
+        // An index, as in `ranges_ok`.
+        let mut any: u16 = 0;
+        for at in flows as usize..64 {
+            any |= (self.share[at] | self.largest[at]) | (self.first[at] | self.waiting[at]);
+        }
+        any == 0
     }
-    if 64 < flows {
-        return false;
+
+    // The queue's side of a record is well formed, with this memory of lengths. Any numbers may be handed in.
+    #[tactic(auto, using(crate::proofs::Testing::side_ways))]
+    pub fn are_formed(&self, flows: u32, header: u16, width: u32, lengths: &[u16]) -> bool
+        requires { length lengths.now ≡ 4096 }
+        ensures { result ≡ queue_side flows header width self.now lengths.now }
+    {
+        (1 <= flows) & (flows <= 64) & (header <= 64)
+            && self.ranges_ok(flows)
+            && self.lengths_ok(flows, lengths)
+            && (total(&self.share[..flows as usize]) <= 1000)
+                & (self.widest(flows, header) == u64::from(width))
+                & self.rest_ok(flows)
     }
-    if 64 < header {
-        return false;
-    }
-    if !ranges_ok(flows, share, largest, first, waiting) {
-        return false;
-    }
-    if !lengths_ok(flows, largest, first, waiting, lengths) {
-        return false;
-    }
-    let sums = (sum_of(flows, share) <= 1000)
-        & (opening::widest(table, flows, header, share, largest) == width as u64);
-    sums & rest_ok(flows, share, largest, first, waiting)
 }

@@ -1,7 +1,6 @@
 // The queue's side of an uplink: what each of 64 flows has booked, and where its packets wait in two lent memories.
 // It knows no tag and no clock, so every engine has it as it stands. Source: document 01.
 // Units: lengths in bytes, costs in ticks a byte, shares in thousandths of the link.
-// Functions borrow the arrays that they look at; none takes all of `Queues`, which would be copied.
 #![tactic(auto)]
 
 ghost use Rattle.std.specs.Prelude.{◌≡◌};
@@ -14,9 +13,8 @@ mod lengths;
 mod opening;
 mod places;
 
-pub use form::are_formed;
-pub use opening::{clear_handles, clear_lengths, opening_reply, widest};
-pub use places::{Freed, are_lent, arrival_reply, field, free, go_on, join, leave, store};
+pub use opening::{clear, opening_reply};
+pub use places::{Freed, are_lent, free, store};
 
 // One array for each field. A flow's packets wait in a ring of its 64 places, from `first` on. All fields are 0 where
 // the flow is not in the table.
@@ -46,6 +44,7 @@ impl Queues {
     }
 
     // The queues of a table as it opens: nothing waits.
+    #[tactic(auto, unfolding(crate::specs::Opening::new_queues))]
     pub fn opened(shares: &[u32], largest: &[u32]) -> Queues
         requires { Small shares.now × Small largest.now }
         ensures { result ≡ new_queues shares.now largest.now }

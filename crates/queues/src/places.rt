@@ -1,16 +1,18 @@
 // Where packets wait, how one joins behind and how one leaves in front; refusals 1, 7, 8 and 9.
+// The two memories are two slices side by side, as the calls of the C interface lend them.
 ghost use Rattle.std.specs.Prelude.{◌≡◌, ◌+◌, ◌-◌, ◌%◌, ◌<◌, ◌≤◌, length, slice_index, slice_set};
-ghost use Rattle.reply.specs.Reply.{arrival_reply};
+ghost use Rattle.reply.specs.Reply.{done_reply};
 ghost use Rattle.queues.specs.Queue.{place_of};
 ghost use Rattle.queues.specs.Places.{lent, join_reply, freed_of};
 
-use reply::{ArrivalReply, Refusal};
+use crate::Queues;
+use reply::Refusal;
 
 // The place of a flow's k-th waiting packet, from k = 0, in either memory.
 fn place(flow: u32, first: u16, k: u16) -> usize
     ensures { result ≡ place_of flow first k }
 {
-    64 * (flow as usize) + (first as usize + k as usize) % 64
+    64 * (flow as usize) + (usize::from(first) + usize::from(k)) % 64
 }
 
 // Each lent memory has exactly 4,096 places: 1 where one has not.
@@ -20,75 +22,62 @@ pub fn are_lent(lengths: &[u16], handles: &[u32]) -> bool
     (lengths.len() == 4096) & (handles.len() == 4096)
 }
 
-// One flow's entry in the array of a field.
-pub fn field(fields: &[u16; 64], flow: u32) -> u16
-    requires { flow < 64 }
-    ensures { result ≡ slice_index fields.now flow }
-{
-    let f = flow as usize;
-    fields[f]
-}
-
-// One packet more waits in the flow. Gives the number that waited before.
-pub fn join(waiting: &mut [u16; 64], flow: u32) -> u16
-    requires { (flow < 64) × (slice_index waiting.old flow < 64) }
-    ensures { (result ≡ slice_index waiting.old flow)
-        × (waiting.new ≡ slice_set waiting.old flow (result + 1)) }
-{
-    let f = flow as usize;
-    let before = waiting[f];
-    waiting[f] = before + 1;
-    before
-}
-
-// One packet fewer waits in the flow. Gives the number that waited before.
-pub fn leave(waiting: &mut [u16; 64], flow: u32) -> u16
-    requires { (flow < 64) × (0 < slice_index waiting.old flow) }
-    ensures { (result ≡ slice_index waiting.old flow)
-        × (waiting.new ≡ slice_set waiting.old flow (result - 1)) }
-{
-    let f = flow as usize;
-    let before = waiting[f];
-    waiting[f] = before - 1;
-    before
-}
-
-// The flow's first place goes on by one, 63 to 0. Gives the place that was first.
-pub fn go_on(first: &mut [u16; 64], flow: u32) -> u16
-    requires { (flow < 64) × (slice_index first.old flow < 64) }
-    ensures { (result ≡ slice_index first.old flow)
-        × (first.new ≡ slice_set first.old flow ((result + 1) % 64)) }
-{
-    let f = flow as usize;
-    let before = first[f];
-    first[f] = (before + 1) % 64;
-    before
-}
-
-// Refusals 7, 8 and 9.
-#[tactic(auto, using(crate::proofs::Placing::joining))]
-pub fn arrival_reply<'a>(
-    flows: u32,
-    flow: u32,
-    bytes: u32,
-    largest: &'a [u16; 64],
-    waiting: &'a [u16; 64],
-) -> ArrivalReply
-    requires { flows ≤ 64 }
-    ensures { arrival_reply result ≡ join_reply flows flow bytes (slice_index largest.now flow)
-        (slice_index waiting.now flow) }
-{
-    if flows <= flow {
-        return ArrivalReply::Refused(Refusal::NoFlow);
+impl Queues {
+    // One packet more waits in the flow. Gives the number that waited before.
+    pub fn join(&mut self, flow: u32) -> u16
+        requires { (flow < 64) × (slice_index self.old.waiting flow < 64) }
+        ensures { (result ≡ slice_index self.old.waiting flow)
+            × (self.new ≡ record self.old { waiting = slice_set self.old.waiting flow (result + 1) }) }
+    {
+        let waiting = &mut self.waiting[flow as usize];
+        let before = *waiting;
+        *waiting = before + 1;
+        before
     }
-    let most = field(largest, flow);
-    if (bytes < 1) | ((most as u32) < bytes) {
-        return ArrivalReply::Refused(Refusal::Length);
+
+    // One packet fewer waits in the flow. Gives the number that waited before.
+    pub fn leave(&mut self, flow: u32) -> u16
+        requires { (flow < 64) × (0 < slice_index self.old.waiting flow) }
+        ensures { (result ≡ slice_index self.old.waiting flow)
+            × (self.new ≡ record self.old { waiting = slice_set self.old.waiting flow (result - 1) }) }
+    {
+        let waiting = &mut self.waiting[flow as usize];
+        let before = *waiting;
+        *waiting = before - 1;
+        before
     }
-    if 64 <= field(waiting, flow) {
-        return ArrivalReply::Refused(Refusal::Full);
+
+    // The flow's first place goes on by one, 63 to 0. Gives the place that was first.
+    pub fn go_on(&mut self, flow: u32) -> u16
+        requires { (flow < 64) × (slice_index self.old.first flow < 64) }
+        ensures { (result ≡ slice_index self.old.first flow)
+            × (self.new ≡ record self.old { first = slice_set self.old.first flow ((result + 1) % 64) }) }
+    {
+        let first = &mut self.first[flow as usize];
+        let before = *first;
+        *first = (before + 1) % 64;
+        before
     }
-    ArrivalReply::Done
+
+    // Refusals 7, 8 and 9, for a packet of `bytes` bytes that comes to `flow`, with `flows` flows in the table.
+    #[tactic(auto, using(crate::proofs::Placing::joining))]
+    pub fn admits(&self, flows: u32, flow: u32, bytes: u32) -> Result<(), Refusal>
+        requires { flows ≤ 64 }
+        ensures { done_reply result ≡ join_reply flows flow bytes (slice_index self.now.largest flow)
+            (slice_index self.now.waiting flow) }
+    {
+        if flows <= flow {
+            return Err(Refusal::NoFlow);
+        }
+        let f = flow as usize;
+        if (bytes < 1) | (u32::from(self.largest[f]) < bytes) {
+            return Err(Refusal::Length);
+        }
+        if 64 <= self.waiting[f] {
+            return Err(Refusal::Full);
+        }
+        Ok(())
+    }
 }
 
 // A packet goes behind the flow's last one.

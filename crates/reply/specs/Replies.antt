@@ -1,13 +1,11 @@
 -- A reply's number and values tell the reply: no two answers of a call are given in the same numbers.
 -- Assumes nothing.
-use Rattle.std.specs.Prelude.{◌≡◌, refl, List, [], ◌∷◌, ℕ, get_or}
+use Rattle.std.specs.Prelude.{◌≡◌, refl, List, [], ◌∷◌, ℕ, get_or, Result, Ok, Err}
 use Rattle.std.proofs.Common.{sym, ap, ◌∙◌, arith}
 use Rattle.reply.specs.declared.Refusal.{Refusal}
 use Rattle.reply.specs.declared.Refusal.TheVariants.{Memory, Form, Lists, Share, Largest, Sum}
 use Rattle.reply.specs.declared.Refusal.TheVariants.{NoFlow, Length, Full, Clock}
-use Rattle.reply.specs.declared.OpeningReply.{OpeningReply}
-use Rattle.reply.specs.declared.ArrivalReply.{ArrivalReply}
-use Rattle.reply.specs.Reply.{Reply, idle, done, refused, refusal, opening_reply, arrival_reply}
+use Rattle.reply.specs.Reply.{Reply, idle, done, refused, refusal, done_reply}
 
 -- the refusal of a number and a flow
 abbrev numbered : ℕ → ℕ → Refusal
@@ -48,27 +46,15 @@ pub one : {A : Type 0} (give : A → Reply) (back : Reply → A) → ((a : A) �
     → (a b : A) → give a ≡ give b → a ≡ b
 one give back same a b e = sym (same a) ∙ ap back e ∙ same b
 
-abbrev opening_of : Reply → OpeningReply
-opening_of = read OpeningReply.Done (λ _. OpeningReply.Done) OpeningReply.Refused
+abbrev done_of : Reply → Result (Unit {0}) Refusal
+done_of = read (Ok tt) (λ _. Ok tt) Err
 
-opening_read : (a : OpeningReply) → opening_of (opening_reply a) ≡ a
-opening_read OpeningReply.Done = refl
-opening_read (OpeningReply.Refused why) =
-    read_refusal OpeningReply.Done (λ _. OpeningReply.Done) (λ w. OpeningReply.Refused w) why
+done_read : (a : Result (Unit {0}) Refusal) → done_of (done_reply a) ≡ a
+done_read (Ok _) = refl
+done_read (Err why) = read_refusal (Ok tt) (λ _. Ok tt) (λ w. Err w) why
 
-pub opening_reply_one : (a b : OpeningReply) → opening_reply a ≡ opening_reply b → a ≡ b
-opening_reply_one = one opening_reply opening_of opening_read
-
-abbrev arrival_of : Reply → ArrivalReply
-arrival_of = read ArrivalReply.Done (λ _. ArrivalReply.Done) ArrivalReply.Refused
-
-arrival_read : (a : ArrivalReply) → arrival_of (arrival_reply a) ≡ a
-arrival_read ArrivalReply.Done = refl
-arrival_read (ArrivalReply.Refused why) =
-    read_refusal ArrivalReply.Done (λ _. ArrivalReply.Done) (λ w. ArrivalReply.Refused w) why
-
-pub arrival_reply_one : (a b : ArrivalReply) → arrival_reply a ≡ arrival_reply b → a ≡ b
-arrival_reply_one = one arrival_reply arrival_of arrival_read
+pub done_reply_one : (a b : Result (Unit {0}) Refusal) → done_reply a ≡ done_reply b → a ≡ b
+done_reply_one = one done_reply done_of done_read
 
 -- no reply is of two kinds
 pub refused_done : {A : Type 0} {number flow : ℕ} {values : List ℕ} → refused number flow ≡ done values → A

@@ -1,12 +1,10 @@
 -- The paper's number and values for each answer: document 01, "Refusal numbers", "Pick" and "The script program".
 -- The contracts of every engine use these.
 -- Assumes nothing.
-use Rattle.std.specs.Prelude.{Bool, cond, List, [], ◌∷◌, ℕ}
+use Rattle.std.specs.Prelude.{Bool, cond, List, [], ◌∷◌, ℕ, Result, Ok, Err}
 use Rattle.reply.specs.declared.Refusal.{Refusal}
 use Rattle.reply.specs.declared.Refusal.TheVariants.{Memory, Form, Lists, Share, Largest, Sum}
 use Rattle.reply.specs.declared.Refusal.TheVariants.{NoFlow, Length, Full, Clock}
-use Rattle.reply.specs.declared.OpeningReply.{OpeningReply}
-use Rattle.reply.specs.declared.ArrivalReply.{ArrivalReply}
 
 -- a reply in the paper's numbers
 pub data Reply : Type 0 where
@@ -41,13 +39,10 @@ reply_flow idle = 0
 reply_flow (done values) = 0
 reply_flow (refused number flow) = flow
 
-abbrev pub opening_reply : OpeningReply → Reply
-opening_reply OpeningReply.Done = done []
-opening_reply (OpeningReply.Refused why) = refusal why
-
-abbrev pub arrival_reply : ArrivalReply → Reply
-arrival_reply ArrivalReply.Done = done []
-arrival_reply (ArrivalReply.Refused why) = refusal why
+-- an opening's reply and an arrival's: "done", or refused
+abbrev pub done_reply : Result (Unit {0}) Refusal → Reply
+done_reply (Ok _) = done []
+done_reply (Err why) = refusal why
 
 -- "The reply is flow, length, handle, T, leapt or not, clock."
 abbrev pub packet : ℕ → ℕ → ℕ → ℕ → Bool → ℕ → Reply

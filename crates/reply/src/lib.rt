@@ -29,16 +29,11 @@ pub enum Refusal {
     Clock,
 }
 
-#[derive(Clone, Copy)]
-pub enum OpeningReply {
-    Done,
-    Refused(Refusal),
-}
-
-#[derive(Clone, Copy)]
-pub enum ArrivalReply {
-    Done,
-    Refused(Refusal),
+// What a call gives back: the next record, each engine its own, and the reply.
+#[derive(Drop)]
+pub struct Called<R, T> {
+    pub next: R,
+    pub reply: Result<T, Refusal>,
 }
 
 impl Refusal {
@@ -65,16 +60,8 @@ impl Refusal {
         ensures { result ≡ reply_flow (refusal self) }
     {
         match self {
-            Refusal::Share(flow) => flow,
-            Refusal::Largest(flow) => flow,
-            Refusal::Memory => 0,
-            Refusal::Form => 0,
-            Refusal::Lists => 0,
-            Refusal::Sum => 0,
-            Refusal::NoFlow => 0,
-            Refusal::Length => 0,
-            Refusal::Full => 0,
-            Refusal::Clock => 0,
+            Refusal::Share(flow) | Refusal::Largest(flow) => flow,
+            _ => 0,
         }
     }
 }

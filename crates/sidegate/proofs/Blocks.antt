@@ -7,7 +7,6 @@ use native.Mathlib.Omega.{arith}
 use lib.IntN.{ℤ}
 use lib.ListN.{length, get_or, set, drop, length-set}
 use lib.Seq.{drop-cons, drop-length, get_or-set_same}
-use borrow.Rule.Slice.PartMut.{put_mid}
 use Rattle.tags.specs.Ticks.{ticks}
 use Rattle.uplink.specs.Record.{with, tags_of}
 use Rattle.uplink.specs.declared.Record as forward
@@ -45,6 +44,6 @@ last_word words sum h =
 -- a record written part by part
 module _ (words : List ℕ) (r : Record) (tags block : List ℕ) (h : length words ≡ 133) (t : tags ≡ words_all r.tags.0)
     (b : block ≡ words_of (with (unsigned r) r.clock r.link (tags_of tags) r.queues r.turn)) where
-  pub plain_written : put_mid 0 132 (set words 132 r.sum.0) block ≡ plain_words r
+  pub plain_written : block ++ drop 132 (set words 132 r.sum.0) ≡ plain_words r
   unfolding plain_words
   plain_written = ap (λ rest. block ++ rest) (last_word words r.sum.0 h) ∙ rw (b, t)

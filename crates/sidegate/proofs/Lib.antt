@@ -3,7 +3,6 @@
 -- outcomes of a call are equal.
 mod Words
 mod Blocks
-mod Answers
 mod Calls
 pub mod Refusals
 pub mod Determined

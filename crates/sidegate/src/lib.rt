@@ -1,81 +1,20 @@
 // The plain engine for C: the three calls of the crate `backward` over a block of 133 words that the caller keeps, so
 // that it can be tested and measured from outside. include/backward.h says to the caller what is lent.
+// A call has five lines in common with the crate `gateway`'s: a trait over both engines takes more, with its two impls.
 #![tactic(auto)]
 
-ghost use Rattle.std.specs.Prelude.{◌≡◌, [], length};
-ghost use Rattle.reply.specs.Reply.{opening_reply, arrival_reply};
-ghost use Rattle.uplink.specs.PickReply.{pick_reply};
-ghost use Rattle.gateway.specs.Gateway.{answered, lending, number_of, with_flow, values_or};
+ghost use Rattle.std.specs.Prelude.{◌≡◌, []};
+ghost use Rattle.gateway.specs.Gateway.{answered, lending};
 ghost use Rattle.sidegate.specs.Plain.{plain_opening, plain_arrival, plain_pick};
 
 mod image;
 
 use backward::Record;
-use reply::{ArrivalReply, OpeningReply};
-use uplink::PickReply;
+use gateway::{REFUSED_RECORD, REFUSED_REPLY, arrival_answer, opening_answer, pick_answer};
+use reply::Called;
 
 // The words of a block.
 const BLOCK_WORDS: usize = 133;
-
-// The words of a pick's reply.
-const REPLY_WORDS: usize = 6;
-
-// What a call answers besides document 01's numbers 1 to 10, by its name in include/uplink.h.
-const DONE: u32 = 0;
-
-// Nothing waits.
-const IDLE: u32 = 100;
-
-// The block has not exactly 133 words.
-const REFUSED_RECORD: u32 = 101;
-
-// The reply has not exactly 6 words.
-const REFUSED_REPLY: u32 = 102;
-
-// What an opening answers.
-fn opening_answer(reply: OpeningReply) -> u64
-    ensures { result ≡ with_flow (opening_reply reply) }
-{
-    if let OpeningReply::Refused(why) = reply {
-        let number = why.number();
-        let flow = why.flow();
-        return number as u64 + 4294967296 * (flow as u64);
-    }
-    DONE as u64
-}
-
-// What an arrival answers.
-fn arrival_answer(reply: ArrivalReply) -> u32
-    ensures { result ≡ number_of (arrival_reply reply) }
-{
-    if let ArrivalReply::Refused(why) = reply {
-        return why.number();
-    }
-    DONE
-}
-
-// What a pick answers, with the packet in a reply of six words where there is one.
-fn pick_answer(picked: PickReply, reply: &mut [u64]) -> u32
-    requires { length reply.old ≡ 6 }
-    ensures { (result ≡ number_of (pick_reply picked))
-        × (reply.new ≡ values_or (pick_reply picked) reply.old) }
-{
-    match picked {
-        PickReply::Refused(why) => why.number(),
-        PickReply::Idle => IDLE,
-        PickReply::Packet {
-            flow,
-            length,
-            handle,
-            tag,
-            leapt,
-            clock,
-        } => {
-            gateway::write_packet(flow, length, handle, tag, leapt, clock, reply);
-            DONE
-        }
-    }
-}
 
 // Opens a table: its flows' shares and largest packets, and the link header of every packet.
 pub fn backward_opening(
@@ -90,13 +29,11 @@ pub fn backward_opening(
         ≡ plain_opening shares.now largest.now header
         (lending block.old lengths.old handles.old []) }
 {
-    if block.len() != BLOCK_WORDS {
-        return REFUSED_RECORD as u64;
-    }
-    let opened = Record::opening(shares, largest, header, lengths, handles);
-    let next = opened.next;
-    let reply = opened.reply;
-    image::write_plain(next, block);
+    let Some(words) = block.as_mut_array() else {
+        return u64::from(REFUSED_RECORD);
+    };
+    let Called { next, reply } = Record::opening(shares, largest, header, lengths, handles);
+    image::write_plain(next, words);
     opening_answer(reply)
 }
 
@@ -113,14 +50,12 @@ pub fn backward_arrival(
         ≡ plain_arrival flow length handle
         (lending block.old lengths.old handles.old []) }
 {
-    if block.len() != BLOCK_WORDS {
+    let Some(words) = block.as_mut_array() else {
         return REFUSED_RECORD;
-    }
-    let held = image::plain_of(block);
-    let arrived = held.arrival(flow, length, handle, lengths, handles);
-    let next = arrived.next;
-    let reply = arrived.reply;
-    image::write_plain(next, block);
+    };
+    let held = image::plain_of(words);
+    let Called { next, reply } = held.arrival(flow, length, handle, lengths, handles);
+    image::write_plain(next, words);
     arrival_answer(reply)
 }
 
@@ -136,16 +71,14 @@ pub fn backward_pick(
         ≡ plain_pick
         (lending block.old lengths.old handles.old reply.old) }
 {
-    if block.len() != BLOCK_WORDS {
+    let Some(words) = block.as_mut_array() else {
         return REFUSED_RECORD;
-    }
-    if reply.len() != REPLY_WORDS {
+    };
+    let Some(told) = reply.as_mut_array() else {
         return REFUSED_REPLY;
-    }
-    let held = image::plain_of(block);
-    let picked = held.pick(lengths, handles);
-    let next = picked.next;
-    let answer = picked.reply;
-    image::write_plain(next, block);
-    pick_answer(answer, reply)
+    };
+    let held = image::plain_of(words);
+    let Called { next, reply } = held.pick(lengths, handles);
+    image::write_plain(next, words);
+    pick_answer(reply, told)
 }

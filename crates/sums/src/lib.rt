@@ -6,6 +6,8 @@ ghost use Rattle.std.specs.Prelude.{◌≡◌, length};
 ghost use Rattle.fields.specs.Bytes.{part};
 ghost use Rattle.sums.specs.Sums.{sums_of, sums_right};
 
+use fields::read_number;
+
 // The two sums, each 0 to 65,534.
 #[derive(Drop)]
 pub struct Sums {
@@ -26,12 +28,10 @@ pub fn sums_of(block: &[u8]) -> Sums
 {
     let mut first: u32 = 0;
     let mut second: u32 = 0;
-    let mut at = 0;
-    while at < SUMMED {
-        let byte = block[at] as u32;
+    for summed in &block[..SUMMED] {
+        let byte = u32::from(*summed);
         first = (first + byte) % MODULUS;
         second = (second + first) % MODULUS;
-        at += 1;
     }
     Sums {
         first: first as u16,
@@ -45,10 +45,7 @@ pub fn sums_right(block: &[u8]) -> bool
     ensures { result ≡ sums_right block.now }
 {
     let sums = sums_of(block);
-    let first = fields::read_number(&block[508..510]);
-    let second = fields::read_number(&block[510..512]);
-    if first != sums.first as u64 {
-        return false;
-    }
-    second == sums.second as u64
+    let first = read_number(&block[508..510]);
+    let second = read_number(&block[510..512]);
+    first == u64::from(sums.first) && second == u64::from(sums.second)
 }

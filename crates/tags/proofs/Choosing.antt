@@ -1,31 +1,13 @@
--- Where the search begins; and a step of it: the flow looked at takes the lead, or the leader keeps it.
+-- The search for the smallest tag: its two stretches, what its caller is told of them, and a step: the flow looked at
+-- takes the lead, or the leader keeps it.
 -- Assumes nothing.
-use Rattle.std.proofs.Common.{◌≡◌, ℕ, zero, suc, ◌+◌, ◌-◌, ◌<◌, ◌≤◌, Bool, true, false, cond, eqb, ltb, leb, List, get_or, sym, refl, ap, ◌∙◌, arith, ltb-false, ltb-true, le-ltb, lt-ltb, le-leb}
+use Rattle.std.proofs.Common.{◌≡◌, ℕ, zero, suc, ◌+◌, ◌-◌, ◌<◌, ◌≤◌, Bool, true, false, cond, eqb, ltb, leb, List, Some, None, get_or, sym, refl, ◌∙◌, arith, ltb-false, ltb-true, le-ltb, lt-ltb, le-leb}
 use borrow.Author.Tests.{lt-leb}
 use Rattle.below.specs.Truth.{true_false}
-use Rattle.tags.specs.declared.choice.Lead.{Lead}
-use Rattle.tags.specs.Choice.{no_tag, no_lead, key_of, lead_at, ahead, lead_on, search_from, lead_by}
+use Rattle.tags.specs.Ticks.{ticks}
+use Rattle.tags.specs.Choice.{Lead, no_tag, no_lead, found, lead_as, key_of, lead_at, ahead, lead_on, search_from, lead_by}
 use Rattle.tags.specs.Searched.{search_inside}
 use Rattle.tags.specs.Chosen.{Tagged, Led}
-
--- at the turn where it is inside the table, and else at flow 0
-module _ (turn n : ℕ) where
-  pub from_turn_lem : turn < n → turn ≡ search_from turn n
-  from_turn_lem h = rw (lt-ltb turn n h)
-
-  pub from_none : n ≤ turn → 0 ≡ search_from turn n
-  from_none h = rw (le-ltb turn n h)
-
--- who leads, told by a flow of 64 for nobody and the least key
-abbrev pub lead_as : ℕ → ℕ → Lead
-lead_as flow least = record { waits = ltb flow 64; flow = flow; tag = record { 0 = least } }
-
--- a leader is told by its flow and its tag
-pub led_as : (lead : Lead) → Led lead → lead_as lead.flow lead.tag.0 ≡ lead
-led_as lead L = ap (λ b. record { waits = b; flow = lead.flow; tag = lead.tag }) (sym L.told)
-
-pub as_led : (lead : Lead) → Led lead → Led (lead_as lead.flow lead.tag.0)
-as_led lead L = rw (led_as lead L) L
 
 -- a flow that takes the lead is told so
 pub flow_led : (flow key : ℕ) → flow < 64 → key ≤ no_tag → Led (lead_as flow key)
@@ -66,27 +48,32 @@ module _ (turn : ℕ) (tags waits : List ℕ) (n : ℕ) (few : n ≤ 64) (T : Ta
   inside : from ≤ n
   inside = omega (arith, begins, search_inside turn n)
 
-  pub first_stretch : (from ≤ n) × (n ≤ 64) × Tagged tags n × Led no_lead
-  first_stretch = (
-    inside,
-    few,
-    T,
-    record { told = refl; few = omega arith; high = omega arith; none = λ _. refl },
-  )
+  -- nobody leads before the first
+  nobody_led : Led no_lead
+  nobody_led = record { told = refl; few = omega arith; high = omega arith; none = λ _. refl }
 
-  pub second_stretch : (later : Lead) → later ≡ lead_on tag waiting no_lead from (n - from)
-      → (0 ≤ from) × (from ≤ 64) × Tagged tags from × Led later
-  second_stretch later e = (
+  pub second_stretch : (flow key : ℕ) → lead_as flow key ≡ lead_on tag waiting (lead_as 64 no_tag) from (n - from)
+      → (0 ≤ from) × (from ≤ 64) × Tagged tags from × Led (lead_as flow key)
+  second_stretch flow key e = (
     omega arith,
     omega (arith, inside),
     record { each = λ f h. T.each f (omega (arith, inside)) },
-    rw e (on_led tag waiting from (n - from) n no_lead (omega (arith, inside)) few T.each first_stretch.3),
+    rw e (on_led tag waiting from (n - from) n no_lead (omega (arith, inside)) few T.each nobody_led),
   )
 
-  pub both_stretches : (later last : Lead) → later ≡ lead_on tag waiting no_lead from (n - from)
-      → last ≡ lead_on tag waiting later 0 (from - 0) → last ≡ lead_by turn tag waiting n
-  unfolding lead_by
-  both_stretches later last e q = let all : from - 0 ≡ from = omega arith in rw (all, e, begins) at q
+  module _ (flow key last least : ℕ)
+      (e : lead_as flow key ≡ lead_on tag waiting (lead_as 64 no_tag) from (n - from))
+      (q : lead_as last least ≡ lead_on tag waiting (lead_as flow key) 0 (from - 0)) where
+    both_stretches : lead_as last least ≡ lead_by turn tag waiting n
+    unfolding lead_by
+    both_stretches = let all : from - 0 ≡ from = omega arith in rw (all, e, begins) at q
+
+    -- what the caller is told of them
+    pub found_some : last < 64 → Some (record { flow = last; tag = ticks least }) ≡ found (lead_by turn tag waiting n)
+    found_some h = rw (← both_stretches, lt-ltb last 64 h)
+
+    pub found_none : 64 ≤ last → None ≡ found (lead_by turn tag waiting n)
+    found_none h = rw (← both_stretches, le-ltb last 64 h)
 
 -- by the keys it takes the lead where its own is smaller
 ahead_key : (flow least tag waiting n : ℕ) → Led (lead_as flow least) → tag < no_tag → n < 64
@@ -104,16 +91,10 @@ ahead_key flow least tag waiting n L low few =
     go false p true q false t = rw (p, q, t, le-leb least tag (ltb-false tag least t))
     go false p false q c t = rw (p, q, lt-ltb tag least (omega (arith, L.none q)), lt-ltb n 64 few)
 
--- before the first step the lead is as it came, and at the end it is told so
-module _ (tag waiting : ℕ → ℕ) (from : ℕ) where
-  pub lead_begins : (lead : Lead) → lead ≡ lead_on tag waiting lead from (from - from)
-  unfolding lead_on
-  lead_begins lead = let none : from - from ≡ 0 = omega arith in rw none
-
-  pub lead_ends : (lead last : Lead) (at to : ℕ) → Led lead → at ≡ to
-      → last ≡ lead_on tag waiting (lead_as lead.flow lead.tag.0) from (at - from)
-      → last ≡ lead_on tag waiting lead from (to - from)
-  lead_ends lead last at to L e q = rw (led_as lead L, e) at q
+-- before the first step the lead is as it came
+pub lead_begins : (tag waiting : ℕ → ℕ) (from : ℕ) (lead : Lead) → lead ≡ lead_on tag waiting lead from (from - from)
+unfolding lead_on
+lead_begins tag waiting from lead = let none : from - from ≡ 0 = omega arith in rw none
 
 -- a step: the flow at `at`, behind those from `from` on
 module _ (tag waiting : ℕ → ℕ) (lead : Lead) (from at flow least key : ℕ)

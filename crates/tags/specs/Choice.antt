@@ -2,9 +2,10 @@
 -- equals is taken, are two things: theorems over several calls use the first alone. Tags and numbers waiting are given
 -- by the flow's number: nothing of a layout.
 -- Assumes nothing.
-use Rattle.std.specs.Prelude.{◌≡◌, ℕ, zero, suc, ◌+◌, ◌-◌, ◌%◌, ◌^◌, ◌<◌, ◌≤◌, true, false, cond, ◌==◌, nat_le, nat_lt}
+use Rattle.std.specs.Prelude.{◌≡◌, ℕ, zero, suc, ◌+◌, ◌-◌, ◌%◌, ◌^◌, ◌<◌, ◌≤◌, Bool, true, false, cond, ◌==◌, nat_le, nat_lt, Option, Some, None}
 use Rattle.tags.specs.Ticks.{ticks}
-use Rattle.tags.specs.declared.choice.Lead.{Lead}
+use Rattle.tags.specs.declared.ServerTicks.{ServerTicks}
+use Rattle.tags.specs.declared.choice.Lead as told
 
 -- "the waiting flow with the smallest tag", of the first n flows: flow f waits, and no flow that waits has a smaller
 -- tag
@@ -30,6 +31,12 @@ pub record First (turn : ℕ) (tag waiting : ℕ → ℕ) (n f : ℕ) : Type 0 w
 -- above every tag
 abbrev pub no_tag : ℕ
 no_tag = 2 ^ 64 - 1
+
+-- who leads: the flow that does, and its tag; where `waits` is false nothing waits, and flow and tag mean nothing
+pub record Lead : Type 0 where
+  pub waits : Bool
+  pub flow : ℕ
+  pub tag : ServerTicks
 
 -- no flow leads yet; flow and tag mean nothing
 abbrev pub no_lead : Lead
@@ -63,6 +70,14 @@ unfoldable pub lead_by : ℕ → (ℕ → ℕ) → (ℕ → ℕ) → ℕ → Lea
 lead_by turn tag waiting n =
     let from = search_from turn n in
     lead_on tag waiting (lead_on tag waiting no_lead from (n - from)) 0 from
+
+-- who leads, as the search's caller is told: a flow and its tag, and none where nothing waits
+abbrev pub found : Lead → Option told.Lead
+found lead = cond lead.waits (Some (record { flow = lead.flow; tag = lead.tag })) None
+
+-- who leads, as the search itself goes by it: a flow of 64 is nobody
+abbrev pub lead_as : ℕ → ℕ → Lead
+lead_as flow tag = record { waits = nat_lt flow 64; flow = flow; tag = ticks tag }
 
 -- the tag of a flow that waits, and what is above every tag for any other: the code compares these
 abbrev pub key_of : ℕ → ℕ → ℕ

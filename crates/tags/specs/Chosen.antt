@@ -1,14 +1,14 @@
 -- What the leader among the flows is: the first one, counting round from the turn, of the waiting flows of smallest
 -- tag; there is one such flow at most; and where nobody leads nobody waits.
 -- Assumes nothing.
-use Rattle.std.specs.Prelude.{◌≡◌, ℕ, zero, suc, ◌+◌, ◌-◌, ◌<◌, ◌≤◌, Bool, true, false, cond, List, ◌==◌, ◌≢◌, nat_eq, nat_le, nat_lt, slice_index, refl}
+use Rattle.std.specs.Prelude.{◌≡◌, ℕ, zero, suc, ◌+◌, ◌-◌, ◌<◌, ◌≤◌, Bool, true, false, cond, List, ◌==◌, ◌≢◌, nat_eq, nat_le, nat_lt, slice_index, Option, Some, None, refl}
 use Rattle.std.proofs.Common.{sym, ap, ap₂, ◌∙◌, arith, leb-true, leb-false, le-leb}
 use Rattle.std.proofs.lemmas.Bool.{eqb-false, lt-leb}
 use Rattle.tags.specs.Ticks.{ticks}
-use Rattle.tags.specs.Choice.{Smallest, First, from_turn, turn_after, no_tag, no_lead, ahead, lead_on}
+use Rattle.tags.specs.Choice.{Lead, Smallest, First, from_turn, turn_after, no_tag, no_lead, found, ahead, lead_on}
 use Rattle.tags.specs.Choice.{search_from, lead_by}
 use Rattle.tags.specs.Searched.{search_inside, place_in, place_below, earlier_nearer, LeadsBefore, leads_all}
-use Rattle.tags.specs.declared.choice.Lead.{Lead}
+use Rattle.tags.specs.declared.choice.Lead as told
 
 -- two flows as far from the turn are one flow
 same_distance : (turn f g : ℕ) → turn < 64 → f < 64 → g < 64 → from_turn turn f ≡ from_turn turn g → f ≡ g
@@ -82,6 +82,24 @@ leads turn tag waiting n =
           waits = L.waits e;
           least = λ g l w. omega (arith, L.own e, L.least e g l (reached g l) w);
         }
+
+-- what the search's caller is told, read back
+pub found_some : (lead : Lead) (l : told.Lead) → Some l ≡ found lead
+    → (lead.waits ≡ true) × (l.flow ≡ lead.flow) × (l.tag ≡ lead.tag)
+found_some lead l e = go lead.waits refl e
+  where
+    go : (b : Bool) → lead.waits ≡ b → Some l ≡ cond b (Some (record { flow = lead.flow; tag = lead.tag })) None
+        → (lead.waits ≡ true) × (l.flow ≡ lead.flow) × (l.tag ≡ lead.tag)
+    go true q e = (q, cc, cc)
+    go false q e = cc
+
+pub found_none : (lead : Lead) → ◌≡◌ {A = Option told.Lead} None (found lead) → lead.waits ≡ false
+found_none lead e = go lead.waits refl e
+  where
+    go : (b : Bool) → lead.waits ≡ b → ◌≡◌ {A = Option told.Lead} None (cond b (Some (record { flow = lead.flow; tag = lead.tag })) None)
+        → lead.waits ≡ false
+    go true q e = cc
+    go false q e = q
 
 -- no tag of the first n is what stands for none
 pub record Tagged (tags : List ℕ) (n : ℕ) : Type 0 where

@@ -8,8 +8,7 @@ use Rattle.std.proofs.Math.Decide.{ℕ_discrete}
 use Rattle.std.proofs.Math.Numerals.{unary_clauses}
 use borrow.Author.Tests.{leb-true, leb-false, eqb-true, eqb-false, ltb-true, ltb-false, lt-ltb, le-ltb}
 use Rattle.below.specs.Truth.{true_false}
-use Rattle.tags.specs.Choice.{from_turn, no_lead, lead_at, ahead, lead_on, search_from}
-use Rattle.tags.specs.declared.choice.Lead.{Lead}
+use Rattle.tags.specs.Choice.{Lead, from_turn, no_lead, lead_at, ahead, lead_on, search_from}
 
 -- the search begins inside the table, or at its end
 pub search_inside : (turn n : ℕ) → search_from turn n ≤ n

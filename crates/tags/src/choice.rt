@@ -1,20 +1,24 @@
 // Which flow is picked: document 01, Pick, step 2; of equal tags by document 02 e)'s turn.
 ghost use Rattle.std.specs.Prelude.{◌≡◌, ◌-◌, ◌≤◌, slice_index};
-ghost use Rattle.tags.specs.Choice.{turn_after, search_from, key_of, lead_on, lead_by};
+ghost use Rattle.tags.specs.Choice.{turn_after, search_from, key_of, lead_on, lead_by, lead_as, found};
 ghost use Rattle.tags.specs.Chosen.{Tagged, Led};
 
-use crate::ServerTicks;
+use crate::{NO_TAG, ServerTags, ServerTicks};
 
-// The flow that leads, and its tag; where `waits` is false nothing waits, and flow and tag mean nothing.
-#[derive(Drop)]
+// The flow that leads, and its tag.
+#[derive(Clone, Copy)]
 pub struct Lead {
-    pub waits: bool,
     pub flow: u32,
     pub tag: ServerTicks,
 }
 
-// Above every tag: 2^64 - 1.
-const NO_TAG: u64 = 18446744073709551615;
+// The flow that leads among those looked at, and its tag: 64 and what is above every tag for nobody. As an option it
+// takes a sixth more instructions a flow.
+#[derive(Clone, Copy)]
+struct Least {
+    flow: usize,
+    key: u64,
+}
 
 // The tag of a flow that waits, and what is above every tag for any other.
 fn key_of(tag: u64, waiting: u16) -> u64
@@ -27,7 +31,7 @@ fn key_of(tag: u64, waiting: u16) -> u64
 fn search_from(turn: u64, flows: u32) -> usize
     ensures { result ≡ search_from turn flows }
 {
-    if turn < flows as u64 {
+    if turn < u64::from(flows) {
         turn as usize
     } else {
         0
@@ -35,58 +39,51 @@ fn search_from(turn: u64, flows: u32) -> usize
 }
 
 // Who leads once the flows from `from` up to `to` have been looked at too: one that waits with a smaller tag takes the
-// lead, and of equals the first looked at keeps it.
-fn led_on<'a>(
-    lead: Lead,
-    from: usize,
-    to: usize,
-    tags: &'a [u64; 64],
-    waiting: &'a [u16; 64],
-) -> Lead
-    requires { (from ≤ to) × (to ≤ 64) × Tagged tags.now to × Led lead }
-    ensures { result ≡ lead_on (λ f. slice_index tags.now f) (λ f. slice_index waiting.now f) lead from
-        (to - from) }
+// lead, and of equals the first looked at keeps it. A `zip` of tags and numbers waiting takes a sixth more instructions.
+fn led_on(lead: Least, from: usize, to: usize, tags: &[u64; 64], waiting: &[u16; 64]) -> Least
+    requires { (from ≤ to) × (to ≤ 64) × Tagged tags.now to × Led (lead_as lead.flow lead.key) }
+    ensures { lead_as result.flow result.key ≡ lead_on (λ f. slice_index tags.now f)
+        (λ f. slice_index waiting.now f) (lead_as lead.flow lead.key) from (to - from) }
 {
-    let mut flow = lead.flow as usize;
-    let mut least = lead.tag.0;
-    let mut at = from;
-    while at < to {
+    let mut least = lead;
+    for at in from..to {
         let key = key_of(tags[at], waiting[at]);
-        if key < least {
-            least = key;
-            flow = at;
+        if key < least.key {
+            least = Least { flow: at, key };
         }
-        at += 1;
     }
-    let number = flow as u32;
-    Lead {
-        waits: flow < 64,
-        flow: number,
-        tag: ServerTicks(least),
-    }
+    least
 }
 
-// The waiting flow with the smallest tag; of equal tags the first at or after the turn, counting round. Each flow is
-// looked at once: from the turn on, and then from 0 up to it.
-pub fn choose<'a>(turn: u64, flows: u32, tags: &'a [u64; 64], waiting: &'a [u16; 64]) -> Lead
-    requires { (flows ≤ 64) × Tagged tags.now flows }
-    ensures { result ≡ lead_by turn (λ f. slice_index tags.now f) (λ f. slice_index waiting.now f)
-        flows }
-{
-    let end = flows as usize;
-    let from = search_from(turn, flows);
-    let none = Lead {
-        waits: false,
-        flow: 64,
-        tag: ServerTicks(NO_TAG),
-    };
-    let later = led_on(none, from, end, tags, waiting);
-    led_on(later, 0, from, tags, waiting)
+impl ServerTags {
+    // The waiting flow with the smallest tag, and none where nothing waits; of equal tags the first at or after the
+    // turn, counting round. Each flow is looked at once: from the turn on, and then from 0 up to it.
+    pub fn choose(&self, turn: u64, flows: u32, waiting: &[u16; 64]) -> Option<Lead>
+        requires { (flows ≤ 64) × Tagged self.now.0 flows }
+        ensures { result ≡ found (lead_by turn (λ f. slice_index self.now.0 f)
+            (λ f. slice_index waiting.now f) flows) }
+    {
+        let from = search_from(turn, flows);
+        let nobody = Least {
+            flow: 64,
+            key: NO_TAG,
+        };
+        let later = led_on(nobody, from, flows as usize, &self.0, waiting);
+        let least = led_on(later, 0, from, &self.0, waiting);
+        if least.flow < 64 {
+            Some(Lead {
+                flow: least.flow as u32,
+                tag: ServerTicks(least.key),
+            })
+        } else {
+            None
+        }
+    }
 }
 
 // The turn after this flow was picked: one past it, 63 to 0.
 pub fn turn_after(flow: u32) -> u64
     ensures { result ≡ turn_after flow }
 {
-    (flow as u64 + 1) % 64
+    (u64::from(flow) + 1) % 64
 }

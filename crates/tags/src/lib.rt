@@ -2,16 +2,18 @@
 // tag of a packet that comes to the front, what the form asks of tags, and which flow has the smallest.
 // It knows no queue but the number waiting in each. Sources: document 01; source 000 (report WUCS-96-10), section 3,
 // for the leap and equation 3; source 003 for one tag a flow.
-// Link time and server time are two types. Tags stand in a third, and go in and out of it as server ticks only.
+// Link time and server time are two types. The tags of all flows stand in a third, in server ticks.
 #![tactic(auto)]
 
 mod choice;
 mod form;
 mod steps;
 
-pub use choice::{Lead, choose, turn_after};
-pub use form::are_formed;
-pub use steps::{Leapt, front_tag, leap, put_tag, tag_at};
+pub use choice::{Lead, turn_after};
+pub use steps::{Leapt, front_tag, leap};
+
+// Above every tag: 2^64 - 1.
+pub const NO_TAG: u64 = 18446744073709551615;
 
 // Link ticks: what the radio has sent, at 720 ticks a byte. Source 000's real time.
 #[derive(Clone, Copy)]

@@ -10,7 +10,7 @@ use Rattle.queues.specs.Places.{lent}
 use Rattle.queues.specs.Checked.{checked_by}
 use Rattle.tags.specs.Choice.{lead_by, turn_after}
 use Rattle.tags.specs.Chosen.{leads}
-use Rattle.tags.specs.declared.choice.Lead.{Lead}
+use Rattle.tags.specs.Choice.{Lead}
 use Rattle.turns.specs.Fair.{Engine, Picked}
 
 -- the turn after an opening: the new record's or the blank one's

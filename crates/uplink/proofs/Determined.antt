@@ -7,8 +7,8 @@ use contract.Lifetimes.{Lfts}
 use borrow.Fn.World.{ArgsD, ResD}
 use borrow.Fn.Kinds.{ended_of}
 use denote.Triple.Clauses.{AtExit}
-use Rattle.reply.specs.Reply.{opening_reply, arrival_reply}
-use Rattle.reply.specs.Replies.{opening_reply_one, arrival_reply_one}
+use Rattle.reply.specs.Reply.{done_reply}
+use Rattle.reply.specs.Replies.{done_reply_one}
 use Rattle.uplink.specs.PickReply.{pick_reply, pick_reply_one}
 use Rattle.reply.specs.State.{outcome_one}
 use Rattle.uplink.specs.contracts.Record.opening as opening
@@ -26,7 +26,7 @@ pub opening_determined : (κs : Lfts 4) (a : ArgsD opening.signature κs) (r q :
     → opening_reads.Post κs a r s → opening_reads.Post κs a q t
     → (r ≡ q) × (s.1.1.1.0.now ≡ t.1.1.1.0.now) × (s.1.1.1.1.0.now ≡ t.1.1.1.1.0.now)
 opening_determined κs a r q s t e f =
-    outcome_one opening_reply (λ next reply. record { next = next; reply = reply }) opening_reply_one
+    outcome_one done_reply (λ next reply. record { next = next; reply = reply }) done_reply_one
     r.reply q.reply r.next q.next _ _ _ _ (e ∙ sym f)
 
 pub arrival_determined : (κs : Lfts 2) (a : ArgsD arrival.signature κs) (r q : ResD arrival.signature κs)
@@ -36,7 +36,7 @@ pub arrival_determined : (κs : Lfts 2) (a : ArgsD arrival.signature κs) (r q :
     × (s.1.1.1.1.0.now ≡ t.1.1.1.1.0.now)
     × (s.1.1.1.1.1.0.now ≡ t.1.1.1.1.1.0.now)
 arrival_determined κs a r q s t e f =
-    outcome_one arrival_reply (λ next reply. record { next = next; reply = reply }) arrival_reply_one
+    outcome_one done_reply (λ next reply. record { next = next; reply = reply }) done_reply_one
     r.reply q.reply r.next q.next _ _ _ _ (e ∙ sym f)
 
 pub pick_determined : (κs : Lfts 2) (a : ArgsD pick.signature κs) (r q : ResD pick.signature κs)

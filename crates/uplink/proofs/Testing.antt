@@ -2,11 +2,11 @@
 -- the form.
 -- Assumes nothing.
 use mathlib.Core.Path.{◌≡◌, refl, sym, ◌∙◌}
-use mathlib.Core.Bool.{Bool, true, false, not, ◌&&◌, ◌||◌}
+use mathlib.Core.Bool.{Bool, true, false, ◌&&◌, ◌||◌}
 use mathlib.Core.List.{List}
 use Prim.Native.Nat.{ℕ, ◌≤◌, ◌<◌}
 use lib.Dec.{ltb, eqb}
-use borrow.Author.Tests.{not-true, not-false, le-leb, lt-leb, lt-ltb, le-ltb}
+use borrow.Author.Tests.{le-leb, lt-leb, lt-ltb, le-ltb}
 use Rattle.below.specs.Below.{all_below_same}
 use Rattle.below.specs.Truth.{both_true, four_true, and_true}
 use Rattle.below.specs.Faults.{both_below, or_both}
@@ -89,22 +89,25 @@ module _ (r : Record) (lengths : List ℕ) where
       clock_ended h = sym (tested ∙ rw (le-leb r.link.0 r.clock.0 low, le-ltb r.clock.0 clock_end h))
 
       module _ (high : r.clock.0 < clock_end) (b : Bool) (e : b ≡ queue_test) where
-        pub queues_wrong : not b ≡ true → false ≡ formed r lengths
+        pub queues_wrong : b ≡ false → b ≡ formed r lengths
         unfolding clocks_formed
         queues_wrong h = sym (tested ∙
-            rw (le-leb r.link.0 r.clock.0 low, lt-ltb r.clock.0 clock_end high, ← e, not-true b h))
+            rw (le-leb r.link.0 r.clock.0 low, lt-ltb r.clock.0 clock_end high, ← e, h))
 
-        pub as_the_tags : (t : Bool) → not b ≡ false → t ≡ tag_test → t ≡ formed r lengths
+        pub as_the_tags : (t : Bool) → b ≡ true → t ≡ tag_test → t ≡ formed r lengths
         unfolding clocks_formed
         as_the_tags t h q = q ∙ sym (tested ∙
-            rw (le-leb r.link.0 r.clock.0 low, lt-ltb r.clock.0 clock_end high, ← e, not-false b h))
+            rw (le-leb r.link.0 r.clock.0 low, lt-ltb r.clock.0 clock_end high, ← e, h))
 
 -- the queue's side has no more than 64 flows
 pub few_flows : (flows header width : ℕ) (q : Queues) (lengths : List ℕ) (b : Bool)
-    → b ≡ queue_side flows header width q lengths → not b ≡ false → flows ≤ 64
+    → b ≡ queue_side flows header width q lengths → b ≡ true → flows ≤ 64
 unfolding tabled
 few_flows flows header width q lengths b e h =
-    let parts = both_true (tabled flows header width q && queues_formed flows q lengths) _ (sym e ∙ not-false b h) in
+    let parts = both_true (tabled flows header width q && queues_formed flows q lengths) _ (sym e ∙ h) in
     let table = both_true (tabled flows header width q) _ parts.0 in
     let sizes = (four_true (within 1 64 flows && is_header header) _ _ _ table.0).0 in
     (within_bounds 1 64 flows (both_true (within 1 64 flows) (is_header header) sizes).0).1
+
+-- what each way through the test gives
+pub ruleset testing = (turn_past, link_ahead, clock_ended, queues_wrong, as_the_tags, few_flows)

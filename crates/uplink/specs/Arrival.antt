@@ -5,11 +5,12 @@ use Rattle.cost.specs.Charge.{charge_of}
 use Rattle.reply.specs.Reply.{Reply, done}
 use Rattle.queues.specs.Queue.{place_of}
 use Rattle.queues.specs.Places.{join_reply}
+use Rattle.queues.specs.Checked.{ready_reply}
 use Rattle.uplink.specs.Flow.{joined_flow, flow_cost}
 use Rattle.uplink.specs.Record.{flow_at, put}
 use Rattle.reply.specs.State.{outcome, unless_refused}
 use Rattle.uplink.specs.State.{State, Outcome}
-use Rattle.uplink.specs.Form.{checked}
+use Rattle.uplink.specs.Form.{formed, checked}
 
 -- "The packet goes behind the flow's last one."
 abbrev pub last_place : State → ℕ → ℕ
@@ -31,6 +32,10 @@ joining s f n = let w = (flow_at s.held f).queue in join_reply s.held.flows f n 
 
 unfoldable pub join_rule : State → ℕ → ℕ → ℕ → Outcome
 join_rule s f n handle = unless_refused (joining s f n) s (store_rule s f n handle)
+
+-- what they and the checks before them refuse: 1, 2, 7, 8, 9
+abbrev pub admit_reply : State → ℕ → ℕ → Reply
+admit_reply s f n = ready_reply (formed s.held s.lengths) s.lengths s.handles (joining s f n)
 
 -- 1, 2, 7, 8, 9
 abbrev pub arrival_rule : State → ℕ → ℕ → ℕ → Outcome

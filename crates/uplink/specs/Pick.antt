@@ -1,21 +1,19 @@
 -- The rule of a pick: document 01, Pick, steps 1 to 5, and the order of its refusals: 1, 2, Idle, 10.
 -- It has two steps of ours: choose and leap (01's 2 and 3), then advance and free (01's 4 and 5).
 -- Assumes nothing.
-use Rattle.std.specs.Prelude.{Bool, cond, List, ℕ, ◌+◌, ◌^◌, ltb, get_or, set}
+use Rattle.std.specs.Prelude.{Bool, cond, ℕ, ◌+◌, ◌^◌, ltb, get_or, set}
 use Rattle.cost.specs.Charge.{charge_of, link_ticks}
 use Rattle.reply.specs.Reply.{idle, packet}
 use Rattle.queues.specs.Queue.{place_of}
-use Rattle.queues.specs.Places.{freed_of}
 use Rattle.tags.specs.Ticks.{ticks, leaps, leap_clock}
 use Rattle.tags.specs.Choice.{lead_by, turn_after}
-use Rattle.tags.specs.declared.choice.Lead.{Lead}
+use Rattle.tags.specs.Choice.{Lead}
 use Rattle.uplink.specs.Flow.{served_flow, flow_cost}
-use Rattle.uplink.specs.Record.{flow_at, tag_of, waiting_of, moved, turned, put, rested, link_time}
+use Rattle.uplink.specs.Record.{flow_at, tag_of, waiting_of, moved, turned, put, rested}
 use Rattle.reply.specs.State.{state, outcome, demand}
 use Rattle.uplink.specs.State.{State, Outcome}
 use Rattle.uplink.specs.Form.{checked}
 use Rattle.uplink.specs.declared.Record.{Record}
-use Rattle.uplink.specs.declared.pick.Gone.{Gone}
 
 -- 10: "something waits and the clock is 2^62 or more"
 abbrev pub clock_limit : ℕ
@@ -100,16 +98,3 @@ choose_rule s =
 -- 1, 2, Idle, 10
 abbrev pub pick_rule : State → Outcome
 pick_rule s = checked s (choose_rule s)
-
--- what `advance` of `src/pick.rt` gives: the packet that `free` frees, and both clocks after it
-abbrev pub gone_of : ℕ → ℕ → ℕ → ℕ → ℕ → List ℕ → List ℕ → Gone
-gone_of header f first clock link lengths handles =
-    let freed = freed_of f first lengths handles in
-    let sent = link_ticks (charge_of header freed.length) in
-    record {
-      length = freed.length;
-      handle = freed.handle;
-      behind = freed.behind;
-      clock = ticks (clock + sent);
-      link = link_time (link + sent);
-    }

@@ -54,6 +54,10 @@ moved r clock link = with r (ticks clock) (link_time link) r.tags r.queues r.tur
 abbrev pub turned : Record → ℕ → Record
 turned r turn = with r r.clock r.link r.tags r.queues turn
 
+-- the record with another tag for flow f
+abbrev pub tagged : Record → ℕ → ℕ → Record
+tagged r f tag = with r r.clock r.link (tags_of (set r.tags.0 f tag)) r.queues r.turn
+
 -- the record with flow f put anew
 unfoldable pub put : Record → ℕ → Flow → Record
 put r f w =

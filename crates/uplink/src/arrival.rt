@@ -1,11 +1,12 @@
 // An arrival: document 01, "The three calls", with refusals 1, 2, 7, 8, 9 in this order.
-ghost use Rattle.std.specs.Prelude.{◌≡◌};
-ghost use Rattle.reply.specs.Reply.{arrival_reply};
+ghost use Rattle.std.specs.Prelude.{◌≡◌, []};
+ghost use Rattle.reply.specs.Reply.{done, done_reply};
 ghost use Rattle.reply.specs.State.{state, outcome};
-ghost use Rattle.uplink.specs.Arrival.{arrival_rule};
+ghost use Rattle.uplink.specs.Arrival.{admit_reply, store_rule, arrival_rule};
+ghost use Rattle.uplink.specs.Ready.{Stored};
 
-use crate::{Arrived, Record, form};
-use reply::{ArrivalReply, Refusal};
+use crate::{Arrived, Record};
+use reply::{Called, Refusal};
 
 impl Record {
     // A packet of `length` bytes, known to the caller by `handle`, comes to `flow`.
@@ -17,50 +18,64 @@ impl Record {
         lengths: &mut [u16],
         handles: &mut [u32],
     ) -> Arrived
-        ensures exact { outcome (arrival_reply result.reply) result.next lengths.new handles.new
+        ensures exact { outcome (done_reply result.reply) result.next lengths.new handles.new
             ≡ arrival_rule (state self lengths.old handles.old) flow length handle }
     {
-        let table = cost::table();
-        let mut reply = ArrivalReply::Done;
-        if !queues::are_lent(lengths, handles) {
-            reply = ArrivalReply::Refused(Refusal::Memory);
-        } else if !form::is_formed(
-            &table,
-            self.flows,
-            self.header,
-            self.width,
-            self.clock,
-            self.link,
-            &self.tags.0,
-            &self.queues.share,
-            &self.queues.largest,
-            &self.queues.first,
-            &self.queues.waiting,
-            self.turn,
-            lengths,
-        ) {
-            reply = ArrivalReply::Refused(Refusal::Form);
-        } else {
-            reply = queues::arrival_reply(
-                self.flows as u32,
-                flow,
-                length,
-                &self.queues.largest,
-                &self.queues.waiting,
-            );
-            if let ArrivalReply::Done = reply {
-                let first = queues::field(&self.queues.first, flow);
-                let waiting = queues::join(&mut self.queues.waiting, flow);
-                let bytes = length as u16;
-                queues::store(flow, first, waiting, bytes, handle, lengths, handles);
-                if waiting == 0 {
-                    let cost = cost::cost_at(&table, queues::field(&self.queues.share, flow));
-                    let tag = tags::tag_at(&self.tags.0, flow);
-                    let next = tags::front_tag(tag, self.clock, self.header, bytes, cost);
-                    tags::put_tag(&mut self.tags.0, flow, next);
-                }
-            }
+        let reply = self.take(flow, length, handle, lengths, handles);
+        Called { next: self, reply }
+    }
+
+    // The packet is stored where nothing refuses it.
+    #[tactic(auto, using(crate::proofs::Arriving::taking))]
+    fn take(
+        &mut self,
+        flow: u32,
+        length: u32,
+        handle: u32,
+        lengths: &mut [u16],
+        handles: &mut [u32],
+    ) -> Result<(), Refusal>
+        ensures { outcome (done_reply result) self.new lengths.new handles.new
+            ≡ arrival_rule (state self.old lengths.old handles.old) flow length handle }
+    {
+        self.admits(flow, length, lengths, handles)?;
+        self.store(flow, length as u16, handle, lengths, handles);
+        Ok(())
+    }
+
+    // Refusals 1, 2, 7, 8 and 9.
+    #[tactic(auto, using(crate::proofs::Arriving::admitting))]
+    fn admits(
+        &self,
+        flow: u32,
+        length: u32,
+        lengths: &[u16],
+        handles: &[u32],
+    ) -> Result<(), Refusal>
+        ensures { done_reply result ≡ admit_reply (state self.now lengths.now handles.now) flow length }
+    {
+        self.ready(lengths, handles)?;
+        self.queues.admits(u32::from(self.flows), flow, length)
+    }
+
+    // The packet goes behind the flow's last one. Where it is the flow's only one, the flow is tagged for it.
+    fn store(
+        &mut self,
+        flow: u32,
+        bytes: u16,
+        handle: u32,
+        lengths: &mut [u16],
+        handles: &mut [u32],
+    )
+        requires { Stored self.old flow bytes lengths.old handles.old }
+        ensures { outcome (done []) self.new lengths.new handles.new
+            ≡ store_rule (state self.old lengths.old handles.old) flow bytes handle }
+    {
+        let first = self.queues.first[flow as usize];
+        let waiting = self.queues.join(flow);
+        queues::store(flow, first, waiting, bytes, handle, lengths, handles);
+        if waiting == 0 {
+            self.tag_front(flow, bytes);
         }
-        Arrived { next: self, reply }
     }
 }

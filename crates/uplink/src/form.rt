@@ -1,50 +1,46 @@
-// The form test: whether any record and memory handed in are well formed. It runs in every arrival and pick, borrows
-// the record's arrays and never overflows.
-ghost use Rattle.std.specs.Prelude.{◌≡◌, length};
-ghost use Rattle.cost.specs.Cost.{costs};
-ghost use Rattle.uplink.specs.Record.{record_of};
+// The form test, and refusals 1 and 2, with which every arrival and pick begins. Any record and memories may be handed
+// in, and nothing overflows.
+ghost use Rattle.std.specs.Prelude.{◌≡◌, [], length};
+ghost use Rattle.reply.specs.Reply.{done, done_reply};
+ghost use Rattle.queues.specs.Checked.{ready_reply};
 ghost use Rattle.uplink.specs.Form.{formed};
 
-use tags::{LinkTicks, ServerTicks};
+use crate::Record;
+use reply::Refusal;
 
 // The clock is below this: document 02 a)'s 2^62 + 1,127,206,080.
-const CLOCK_END: u64 = 4611686019554593984;
+pub const CLOCK_END: u64 = (1 << 62) + 1_127_206_080;
 
-// The record of these parts is well formed, with this memory of lengths.
-pub fn is_formed<'a>(
-    table: &[u32; 1000],
-    flows: u16,
-    header: u16,
-    width: u32,
-    clock: ServerTicks,
-    link: LinkTicks,
-    tags: &'a [u64; 64],
-    share: &'a [u16; 64],
-    largest: &'a [u16; 64],
-    first: &'a [u16; 64],
-    waiting: &'a [u16; 64],
-    turn: u64,
-    lengths: &[u16],
-) -> bool
-    requires { (length lengths.now ≡ 4096) × (table.now ≡ costs) }
-    ensures { result ≡ formed (record_of flows header width clock.0 link.0 tags.now
-        share.now largest.now first.now waiting.now turn)
-        lengths.now }
-{
-    if 64 <= turn {
-        return false;
+impl Record {
+    // The record is well formed, with this memory of lengths.
+    #[tactic(auto, using(crate::proofs::Testing::testing))]
+    pub fn is_formed(&self, lengths: &[u16]) -> bool
+        requires { length lengths.now ≡ 4096 }
+        ensures { result ≡ formed self.now lengths.now }
+    {
+        let flows = u32::from(self.flows);
+        self.turn < 64
+            && self.link.0 <= self.clock.0
+            && self.clock.0 < CLOCK_END
+            && self
+                .queues
+                .are_formed(flows, self.header, self.width, lengths)
+            && self
+                .tags
+                .are_formed(flows, self.width, self.clock, &self.queues.waiting)
     }
-    if clock.0 < link.0 {
-        return false;
+
+    // Refusals 1 and 2.
+    pub(crate) fn ready(&self, lengths: &[u16], handles: &[u32]) -> Result<(), Refusal>
+        ensures { done_reply result
+            ≡ ready_reply (formed self.now lengths.now) lengths.now handles.now (done []) }
+    {
+        if !queues::are_lent(lengths, handles) {
+            return Err(Refusal::Memory);
+        }
+        if !self.is_formed(lengths) {
+            return Err(Refusal::Form);
+        }
+        Ok(())
     }
-    if CLOCK_END <= clock.0 {
-        return false;
-    }
-    let count = flows as u32;
-    if !queues::are_formed(
-        table, count, header, width, share, largest, first, waiting, lengths,
-    ) {
-        return false;
-    }
-    tags::are_formed(count, width, clock, tags, waiting)
 }

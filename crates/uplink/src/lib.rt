@@ -3,7 +3,7 @@
 // Three calls, `Record::opening`, `arrival` and `pick`, take any input at all and end with a reply or one of ten
 // numbered refusals.
 // The waiting packets are in two lent memories of 4,096 places, one of lengths (bytes) and one of handles; flow f
-// owns places 64 f to 64 f + 63.
+// owns places 64 f to 64 f + 63. They are two parameters wherever they go, as document 01's calls lend them.
 #![tactic(auto)]
 
 ghost use Rattle.std.specs.Prelude.{◌≡◌};
@@ -11,13 +11,14 @@ ghost use Rattle.uplink.specs.Record.{blank};
 
 mod arrival;
 mod form;
+mod front;
 mod opening;
 mod pick;
 
-pub use form::is_formed;
-pub use pick::{Gone, advance};
+pub use form::CLOCK_END;
+pub use pick::{CLOCK_LIMIT, advance};
 use queues::Queues;
-use reply::{ArrivalReply, OpeningReply, Refusal};
+use reply::Called;
 use tags::{LinkTicks, ServerTags, ServerTicks};
 
 // What the scheduler knows between two calls. The caller carries it, with both memories, unaltered from call to call.
@@ -43,43 +44,28 @@ pub struct Record {
     pub turn: u64,
 }
 
+// The packet to send.
 #[derive(Clone, Copy)]
-pub enum PickReply {
-    // Nothing waits.
-    Idle,
-    // The packet to send: its flow, length in bytes, handle and tag, whether the clock leapt, and the clock
-    // after the pick.
-    Packet {
-        flow: u32,
-        length: u16,
-        handle: u32,
-        tag: ServerTicks,
-        leapt: bool,
-        clock: ServerTicks,
-    },
-    Refused(Refusal),
+pub struct Packet {
+    pub flow: u32,
+    // In bytes.
+    pub length: u16,
+    pub handle: u32,
+    pub tag: ServerTicks,
+    // Whether the clock leapt.
+    pub leapt: bool,
+    // The clock after the pick.
+    pub clock: ServerTicks,
 }
 
-// The record that an opening made, or the blank one, with the reply.
-#[derive(Drop)]
-pub struct Opened {
-    pub next: Record,
-    pub reply: OpeningReply,
-}
+// What an opening gives: the record that it made, or the blank one, with the reply.
+pub type Opened = Called<Record, ()>;
 
-// The record after an arrival, with the reply.
-#[derive(Drop)]
-pub struct Arrived {
-    pub next: Record,
-    pub reply: ArrivalReply,
-}
+// What an arrival gives: the record after it, with the reply.
+pub type Arrived = Called<Record, ()>;
 
-// The record after a pick, with the reply.
-#[derive(Drop)]
-pub struct Picked {
-    pub next: Record,
-    pub reply: PickReply,
-}
+// What a pick gives: the record after it, with the reply: no packet where nothing waits, document 01's Idle.
+pub type Picked = Called<Record, Option<Packet>>;
 
 impl Record {
     // All zeros: the record before an opening. It is not well formed.

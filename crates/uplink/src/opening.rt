@@ -1,16 +1,18 @@
 // An opening: document 01, "The three calls", with refusals 1, 3, then flow by flow 4 before 5, then 6.
-ghost use Rattle.std.specs.Prelude.{◌≡◌};
-ghost use Rattle.reply.specs.Reply.{opening_reply};
+ghost use Rattle.std.specs.Prelude.{◌≡◌, replicate};
+ghost use Rattle.reply.specs.Reply.{done_reply};
 ghost use Rattle.reply.specs.State.{outcome};
-ghost use Rattle.uplink.specs.Opening.{opening_rule};
+ghost use Rattle.queues.specs.Openable.{Openable};
+ghost use Rattle.uplink.specs.Opening.{new_record, opening_rule};
 
 use crate::{Opened, Record};
 use queues::Queues;
-use reply::OpeningReply;
+use reply::Called;
 
 impl Record {
     // The record of a table of 1 to 64 flows whose packets carry a link header of `header` bytes, with both memories
     // cleared.
+    #[tactic(auto, using(crate::proofs::Opens::opening_refused))]
     pub fn opening(
         shares: &[u32],
         largest: &[u32],
@@ -18,25 +20,41 @@ impl Record {
         lengths: &mut [u16],
         handles: &mut [u32],
     ) -> Opened
-        ensures exact { outcome (opening_reply result.reply) result.next lengths.new handles.new
+        ensures exact { outcome (done_reply result.reply) result.next lengths.new handles.new
             ≡ opening_rule shares.now largest.now header lengths.old
             handles.old }
     {
-        let mut next = Record::blank();
         let reply = queues::opening_reply(shares, largest, header, lengths, handles);
-        if let OpeningReply::Done = reply {
-            let table = cost::table();
-            let flows = shares.len() as u32;
-            let opened = Queues::opened(shares, largest);
-            let bytes = header as u16;
-            let width = queues::widest(&table, flows, bytes, &opened.share, &opened.largest);
-            queues::clear_lengths(lengths);
-            queues::clear_handles(handles);
-            next.flows = flows as u16;
-            next.header = bytes;
-            next.width = width as u32;
-            next.queues = opened;
+        let next = match reply {
+            Ok(()) => Record::opened(shares, largest, header as u16, lengths, handles),
+            Err(_) => Record::blank(),
+        };
+        Called { next, reply }
+    }
+
+    // The record of a table that nothing refuses, and both memories cleared.
+    fn opened(
+        shares: &[u32],
+        largest: &[u32],
+        header: u16,
+        lengths: &mut [u16],
+        handles: &mut [u32],
+    ) -> Record
+        requires { Openable shares.now largest.now header lengths.old handles.old }
+        ensures { (result ≡ new_record shares.now largest.now header)
+            × (lengths.new ≡ replicate 4096 0)
+            × (handles.new ≡ replicate 4096 0) }
+    {
+        queues::clear(lengths, handles);
+        let flows = shares.len();
+        let queues = Queues::opened(shares, largest);
+        let width = queues.widest(flows as u32, header);
+        Record {
+            flows: flows as u16,
+            header,
+            width: width as u32,
+            queues,
+            ..Record::blank()
         }
-        Opened { next, reply }
     }
 }

@@ -1,10 +1,7 @@
--- `entries::entry_blank` meets its contract: one law for each way through it.
-use Rattle.std.proofs.Common.{rules}
-use Rattle.entries.proofs.Entering.{blank_kind, blank_rest}
+-- `entries::entry_blank` meets its contract: field by field, as equality of entries is.
+use Rattle.entries.specs.Legal.{rest_blank, entry_blank}
 use Rattle.entries.proofs.entry_blank.Goals as goal
 
-pub returns-then-entry-gt0 : goal.returns-then-entry-gt0
-returns-then-entry-gt0 c = search (rules, blank_kind)
-
 pub returns : goal.returns
-returns c = search (rules, blank_rest)
+unfolding entry_blank rest_blank
+returns c = rw c.no_entry.ensures at c.eq.ensures

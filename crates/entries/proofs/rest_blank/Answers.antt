@@ -1,16 +1,8 @@
--- `entries::rest_blank` meets its contract: one law for each way through it.
-use Rattle.std.proofs.Common.{rules}
-use Rattle.entries.proofs.Entering.{rest_flow, rest_length, rest_handle, rest_clock}
+-- `entries::rest_blank` meets its contract: the kind is equal to itself, and the rest goes field by field.
+use Rattle.std.proofs.Common.{◌∙◌, refl, eq-eqb}
+use Rattle.entries.specs.Legal.{rest_blank}
 use Rattle.entries.proofs.rest_blank.Goals as goal
 
-pub returns-then-entry-ne0 : goal.returns-then-entry-ne0
-returns-then-entry-ne0 c = search (rules, rest_flow)
-
-pub returns-then-entry-ne0-2 : goal.returns-then-entry-ne0-2
-returns-then-entry-ne0-2 c = search (rules, rest_length)
-
-pub returns-then-entry-ne0-3 : goal.returns-then-entry-ne0-3
-returns-then-entry-ne0-3 c = search (rules, rest_handle)
-
 pub returns : goal.returns
-returns c = search (rules, rest_clock)
+unfolding rest_blank
+returns c = c.eq.ensures ∙ rw (eq-eqb c.args.entry.kind c.args.entry.kind refl, c.no_entry.ensures)

@@ -1,13 +1,14 @@
 -- `gateway::uplink_arrival` meets its contract: each way through it is one case of its definition.
 use Rattle.std.proofs.Common.{rules}
-use Rattle.gateway.proofs.Calls.{arrival_unblocked, arrival_done, arrival_refused}
+use Rattle.gateway.proofs.Calls.{arrival_unblocked, arrival_told}
 use Rattle.gateway.proofs.uplink_arrival.Goals as goal
 
-pub returns-then-block-ne-BLOCK_WORDS : goal.returns-then-block-ne-BLOCK_WORDS
-returns-then-block-ne-BLOCK_WORDS c = search (rules, arrival_unblocked)
+pub returns-in_default : goal.returns-in_default
+returns-in_default c = search (rules, arrival_unblocked)
 
-pub returns-in-Done : goal.returns-in-Done
-returns-in-Done c = search (rules, arrival_done)
-
-pub returns-in-Refused : goal.returns-in-Refused
-returns-in-Refused c = search (rules, arrival_refused)
+pub returns : goal.returns
+returns c =
+    record {
+      exact = arrival_told c.args.flow c.args.length c.args.handle _ _ _ _ _ _ _ _ _ _ _ c.in-Some.ensures.cases
+          c.record_of-held.ensures c.arrival-reply.ensures.exact c.write_arrived.ensures c.arrival_answer.ensures;
+    }

@@ -1,22 +1,23 @@
 -- `gateway::uplink_depth` meets its contract: each way through it is one case of its definition.
 use Rattle.std.proofs.Common.{rules}
-use mathlib.Core.Logic.{⊎_elim, inl, inr}
-use Rattle.gateway.proofs.Calls.{depth_unblocked, depth_unreplied, depth_refused, depth_done}
+use Rattle.gateway.proofs.Calls.{depth_unblocked, depth_unreplied, depth_done, depth_refused}
 use Rattle.gateway.proofs.uplink_depth.Goals as goal
 
-pub returns-then-block-ne-BLOCK_WORDS : goal.returns-then-block-ne-BLOCK_WORDS
-returns-then-block-ne-BLOCK_WORDS c = search (rules, depth_unblocked)
+pub returns-in_default : goal.returns-in_default
+returns-in_default c = search (rules, depth_unblocked)
 
-pub returns-then-reply-ne-DEPTH_WORDS : goal.returns-then-reply-ne-DEPTH_WORDS
-returns-then-reply-ne-DEPTH_WORDS c = search (rules, depth_unreplied)
+pub returns-in_default-as_mut_array : goal.returns-in_default-as_mut_array
+returns-in_default-as_mut_array c = search (rules, depth_unreplied)
 
-pub returns-then-flow-flows : goal.returns-then-flow-flows
-returns-then-flow-flows c =
+pub returns-in-Ok : goal.returns-in-Ok
+returns-in-Ok c =
     record {
-      exact = depth_refused c.args.flow c.args.block.now c.args.reply.now c.if-block-ne-BLOCK_WORDS.false c.if-reply-ne-DEPTH_WORDS.false _
-          c.number.ensures
-          (⊎_elim (λ over. inl over) (λ over. inr over.1) c.then-flow-flows.either);
+      exact = depth_done c.args.flow _ _ _ _ c.in-Some.ensures.cases c.in-Some-as_mut_array.ensures.cases _ c.in-Ok.ensures;
     }
 
-pub returns : goal.returns
-returns c = search (rules, depth_done)
+pub returns-in-Err : goal.returns-in-Err
+returns-in-Err c =
+    record {
+      exact = depth_refused c.args.flow _ _ _ _ c.in-Some.ensures.cases c.in-Some-as_mut_array.ensures.cases _ _
+          c.number.ensures c.in-Err.ensures;
+    }

@@ -3,8 +3,12 @@ use Rattle.std.proofs.Common.{rules}
 use Rattle.sidegate.proofs.Calls.{opening_unblocked, opening_told}
 use Rattle.sidegate.proofs.backward_opening.Goals as goal
 
-pub returns-then-block-ne-BLOCK_WORDS : goal.returns-then-block-ne-BLOCK_WORDS
-returns-then-block-ne-BLOCK_WORDS c = search (rules, opening_unblocked)
+pub returns-in_default : goal.returns-in_default
+returns-in_default c = search (rules, opening_unblocked)
 
 pub returns : goal.returns
-returns c = search (rules, opening_told)
+returns c =
+    record {
+      exact = opening_told c.args.shares.now c.args.largest.now c.args.header _ _ _ _ _ _ _ _ _ _ c.in-Some.ensures.cases
+          c.opening-reply.ensures.exact c.write_plain.ensures c.opening_answer.ensures;
+    }

@@ -3,11 +3,15 @@ use Rattle.std.proofs.Common.{rules}
 use Rattle.sidegate.proofs.Calls.{pick_unblocked, pick_unreplied, pick_told}
 use Rattle.sidegate.proofs.backward_pick.Goals as goal
 
-pub returns-then-block-ne-BLOCK_WORDS : goal.returns-then-block-ne-BLOCK_WORDS
-returns-then-block-ne-BLOCK_WORDS c = search (rules, pick_unblocked)
+pub returns-in_default : goal.returns-in_default
+returns-in_default c = search (rules, pick_unblocked)
 
-pub returns-then-reply-ne-REPLY_WORDS : goal.returns-then-reply-ne-REPLY_WORDS
-returns-then-reply-ne-REPLY_WORDS c = search (rules, pick_unreplied)
+pub returns-in_default-as_mut_array : goal.returns-in_default-as_mut_array
+returns-in_default-as_mut_array c = search (rules, pick_unreplied)
 
 pub returns : goal.returns
-returns c = search (rules, pick_told)
+returns c =
+    record {
+      exact = pick_told _ _ _ _ _ _ _ _ _ _ _ _ _ _ c.in-Some.ensures.cases c.in-Some-as_mut_array.ensures.cases
+          c.plain_of-held.ensures c.pick-reply.ensures.exact c.write_plain.ensures c.pick_answer.ensures;
+    }

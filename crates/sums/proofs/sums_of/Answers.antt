@@ -1,23 +1,21 @@
 -- `sums::sums_of` meets its contract. What its loop keeps is in Invariants.
-use Rattle.std.proofs.Common.{rules}
-use native.Mathlib.Omega.{arith}
-use Rattle.sums.proofs.Summing.{summed_none, summed_more, summed_all}
+use Rattle.std.proofs.Common.{length-take, rules, arith}
+use Rattle.sums.proofs.Summing.{summed_none, summed_more, summed_all, body_long}
 use Rattle.sums.proofs.sums_of.Goals as goal
 
-pub loop-at-init : goal.loop-at-init
-loop-at-init c = search (rules, summed_none)
+pub slice_bounds-summed-items-end : goal.slice_bounds-summed-items-end
+slice_bounds-summed-items-end c = simp length-take (omega arith)
 
-pub overflow_cast-byte : goal.overflow_cast-byte
-overflow_cast-byte c = omega (arith, c.shared_slice_known-1.given c.loop-at.at)
+pub loop-summed-init : goal.loop-summed-init
+loop-summed-init c = search (rules, summed_none)
 
-pub overflow_add-first : goal.overflow_add-first
-overflow_add-first c = omega (arith, c.shared_slice_known-1.given c.loop-at.at)
-
-pub overflow_add-second : goal.overflow_add-second
-overflow_add-second c = omega (arith, c.shared_slice_known-1.given c.loop-at.at)
-
-pub loop-at-preserved : goal.loop-at-preserved
-loop-at-preserved c = search (rules, summed_more)
+pub loop-summed-preserved : goal.loop-summed-preserved
+loop-summed-preserved c =
+    let long = body_long c.args.block.now c.requires in
+    let q = c.from-byte.ensures in
+    summed_more c.loop-summed.invariant c.requires (omega arith) (search rules)
 
 pub returns : goal.returns
-returns c = search (rules, summed_all)
+returns c =
+    let long = body_long c.args.block.now c.requires in
+    summed_all c.loop-summed.invariant (omega arith)

@@ -3,8 +3,8 @@ use Rattle.std.proofs.Common.{rules}
 use Rattle.sums.proofs.Summing.{right_first, right_second}
 use Rattle.sums.proofs.sums_right.Goals as goal
 
-pub returns-then-first-sums : goal.returns-then-first-sums
-returns-then-first-sums c = search (rules, right_first)
+pub returns-then-first-from : goal.returns-then-first-from
+returns-then-first-from c = search (rules, right_second)
 
-pub returns : goal.returns
-returns c = search (rules, right_second)
+pub returns-else-first-from : goal.returns-else-first-from
+returns-else-first-from c = search (rules, right_first)

@@ -6,5 +6,5 @@ pub returns : goal.returns
 returns c =
     record {
       exact = opened c.args.shares.now c.args.largest.now c.args.header c.args.lengths.now c.args.handles.now _ _ _ _ _
-          c.opening-opened.ensures.exact c.unleapt-next.ensures;
+          c.opening-opened.ensures.exact c.unleapt.ensures;
     }

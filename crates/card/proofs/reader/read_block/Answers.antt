@@ -2,6 +2,7 @@
 use Rattle.std.proofs.Common.{rules}
 use Rattle.card.proofs.Ways.{read_short, read_sums, read_head, read_field, read_done}
 use Rattle.card.proofs.reader.read_block.Goals as goal
+use Rattle.card.proofs.reader.read_block.Goals.{then-zeros-ne0-via-then-zeros-ne0, then-zeros-ne0-via-else-zeros-ne0+then-not-is_legal}
 
 pub returns-then-bytes-ne512 : goal.returns-then-bytes-ne512
 returns-then-bytes-ne512 c = search (rules, read_short)
@@ -10,10 +11,11 @@ pub returns-then-not-sums_right : goal.returns-then-not-sums_right
 returns-then-not-sums_right c = search (rules, read_sums)
 
 pub returns-then-zeros-ne0 : goal.returns-then-zeros-ne0
-returns-then-zeros-ne0 c = search (rules, read_head)
-
-pub returns-then-not-block_legal : goal.returns-then-not-block_legal
-returns-then-not-block_legal c = search (rules, read_field)
+returns-then-zeros-ne0 c =
+    elim c.then-zeros-ne0.branch [
+      | then-zeros-ne0-via-then-zeros-ne0 w ↦ search (rules, read_head)
+      | then-zeros-ne0-via-else-zeros-ne0+then-not-is_legal w ↦ search (rules, read_field)
+    ]
 
 -- fields: ['exact']
 pub returns : goal.returns

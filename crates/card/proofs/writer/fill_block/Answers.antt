@@ -5,5 +5,5 @@ use Rattle.card.proofs.writer.fill_block.Goals as goal
 
 pub returns : goal.returns
 returns c =
-    let all : length c.args.block.entries ≡ 31 = search rules in
+    let all : length c.args.block.now.entries ≡ 31 = search rules in
     search (rules, block_written, all)

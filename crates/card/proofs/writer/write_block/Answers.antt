@@ -6,8 +6,8 @@ use Rattle.card.proofs.writer.write_block.Goals as goal
 pub returns-then-bytes-ne512 : goal.returns-then-bytes-ne512
 returns-then-bytes-ne512 c = search (rules, write_short)
 
-pub returns-then-not-block_legal : goal.returns-then-not-block_legal
-returns-then-not-block_legal c = search (rules, write_field)
+pub returns-then-not-is_legal : goal.returns-then-not-is_legal
+returns-then-not-is_legal c = search (rules, write_field)
 
 -- fields: ['exact']
 pub returns : goal.returns

@@ -1,18 +1,20 @@
 -- `cardgate::content::entries_in` meets its contract. What its loop keeps is in Invariants.
 use Rattle.std.proofs.Common.{rules}
-use Rattle.below.specs.Made.{made_all}
-use Rattle.cardgate.proofs.Tests.{lent_fits}
-use Rattle.cardgate.proofs.Words.{read_none, read_more}
+use Rattle.cardgate.proofs.Tests.{read_none, read_more, fit_none, fit_more, read_all, read_stopped, some_fit, none_fit}
 use Rattle.cardgate.proofs.content.entries_in.Goals as goal
 
 pub loop-place-init : goal.loop-place-init
-loop-place-init c = search (rules, read_none)
-
-pub entry_in-entry-requires : goal.entry_in-entry-requires
-entry_in-entry-requires c = search (rules, lent_fits)
+loop-place-init c = record { made = search (rules, read_none); fit = search (rules, fit_none) }
 
 pub loop-place-preserved : goal.loop-place-preserved
-loop-place-preserved c = search (rules, read_more)
+loop-place-preserved c =
+    let found = some_fit _ _ _ c.in_ok-entry.ensures in
+    record { made = search (rules, read_more); fit = search (rules, fit_more) }
+
+pub returns-in_err-entry : goal.returns-in_err-entry
+returns-in_err-entry c =
+    let none = none_fit _ _ c.in_err-entry.ensures in
+    search (rules, read_stopped)
 
 pub returns : goal.returns
-returns c = search (rules, made_all)
+returns c = search (rules, read_all)

@@ -1,35 +1,29 @@
 -- `lines::reading::number` meets its contract. What its loop keeps is in Invariants.
-use Rattle.std.proofs.Common.{rules}
-use Rattle.lines.proofs.Digits.{reads_none, reads_more, digit_low, digit_fits, times_fits, plus_fits}
-use Rattle.lines.proofs.Digits.{length_wrong, no_digit, too_large, value_read}
+use Rattle.std.proofs.Common.{sym, ◌∙◌, ◌≡◌, true, length}
+use Rattle.cost.specs.Cost.{within}
+use Rattle.lines.proofs.Digits.{in_range, length_wrong, reads_more, no_digit, value_given}
 use Rattle.lines.proofs.reading.number.Goals as goal
 
-pub returns-then-not-field : goal.returns-then-not-field
-returns-then-not-field c = search (rules, length_wrong)
+pub returns-then-not-contains : goal.returns-then-not-contains
+returns-then-not-contains c =
+    let r = c.new.ensures in
+    length_wrong _ (sym (in_range _ _ _ r.start r.end r.exhausted c.contains.ensures.value) ∙ c.if-not-contains.true)
 
-pub loop-at-init : goal.loop-at-init
-loop-at-init c = reads_none _
+pub returns-then-not-is_ascii_digit : goal.returns-then-not-is_ascii_digit
+returns-then-not-is_ascii_digit c =
+    let r = c.new.ensures in
+    let l : within 1 10 (length c.args.field.now) ≡ true =
+    sym (in_range _ _ _ r.start r.end r.exhausted c.contains.ensures.value) ∙ c.if-not-contains.false in
+    no_digit _ l _ _ c.loop-byte.invariant c.loop-byte-test.true (sym c.if-not-is_ascii_digit.ensures.value)
 
-pub returns-then-not-byte : goal.returns-then-not-byte
-returns-then-not-byte c = search (rules, no_digit)
-
-pub overflow_mul-value : goal.overflow_mul-value
-overflow_mul-value c = search (rules, times_fits)
-
-pub overflow_sub-value : goal.overflow_sub-value
-overflow_sub-value c = search (rules, digit_low)
-
-pub overflow_cast-value : goal.overflow_cast-value
-overflow_cast-value c = search (rules, digit_fits)
-
-pub overflow_add-value : goal.overflow_add-value
-overflow_add-value c = search (rules, plus_fits)
-
-pub loop-at-preserved : goal.loop-at-preserved
-loop-at-preserved c = search (rules, reads_more)
-
-pub returns-then-value-gt4294967295 : goal.returns-then-value-gt4294967295
-returns-then-value-gt4294967295 c = search (rules, too_large)
+pub loop-byte-preserved : goal.loop-byte-preserved
+loop-byte-preserved c =
+    rw c.from.ensures (reads_more c.args.field.now _ _ c.loop-byte.invariant c.loop-byte-test.true
+    (sym c.if-not-is_ascii_digit.ensures.value))
 
 pub returns : goal.returns
-returns c = search (rules, value_read)
+returns c =
+    let r = c.new.ensures in
+    let l : within 1 10 (length c.args.field.now) ≡ true =
+    sym (in_range _ _ _ r.start r.end r.exhausted c.contains.ensures.value) ∙ c.if-not-contains.false in
+    rw c.ok.ensures.value (value_given _ l _ _ _ c.loop-byte.invariant c.loop-byte-test.false c.try_from.ensures)

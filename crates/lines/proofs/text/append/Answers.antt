@@ -1,13 +1,20 @@
--- `lines::text::append` meets its contract. What its loop keeps is in Invariants.
-use Rattle.std.proofs.Common.{rules}
-use Rattle.lines.proofs.Putting.{putting_none, putting_more, putting_all}
+-- `lines::text::append` meets its contract: what is copied stands between what stood before it and behind it.
+use Rattle.std.proofs.Common.{arith, refl, ◌+◌, ◌-◌, ◌≡◌, length}
+use lib.Seq.{take-length}
+use Rattle.std.proofs.lemmas.List.Edits.{take-paste, drop-paste, length-paste}
+use Rattle.std.proofs.lemmas.Slice.{put_mid-paste}
 use Rattle.lines.proofs.text.append.Goals as goal
 
-pub loop-i-init : goal.loop-i-init
-loop-i-init c = putting_none _ _ _
-
-pub loop-i-preserved : goal.loop-i-preserved
-loop-i-preserved c = search (rules, putting_more)
-
 pub returns : goal.returns
-returns c = search (rules, putting_all)
+returns c =
+    let out = c.args.out.now in
+    let text = c.args.text.now in
+    let n = length text in
+    let k : n ≡ c.args.at + n - c.args.at = omega arith in
+    rw (put_mid-paste c.args.at (c.args.at + n - c.args.at) out c.copy_from_slice.new.self text n c.copy_from_slice.ensures.after k refl)
+    record {
+      behind = refl;
+      holds = rw (take-paste out c.args.at text n (omega arith) (omega arith), take-length);
+      beyond = drop-paste out c.args.at text n (omega arith) (omega arith);
+      same = length-paste out c.args.at text n (omega arith) (omega arith);
+    }

@@ -1,11 +1,8 @@
--- `queues::opening::table_reply` meets its contract. The loop's invariant: the flows before f are in range, and `sum`
--- is the sum of their shares. The measure is what is left of the table.
-use Rattle.std.proofs.Common.{◌-◌, length}
+-- `queues::opening::table_reply` meets its contract. The loop's invariant: the flows so far are in range, and `sum` is
+-- the sum of their shares.
+use Rattle.std.proofs.Common.{length}
 use Rattle.queues.proofs.Opens.{Passed}
 use Rattle.queues.proofs.opening.table_reply.Given as goal
 
 abbrev pub invariant-loop-f : goal.invariant-loop-f
-invariant-loop-f l = Passed l.shares l.largest l.sum l.f
-
-abbrev pub decreases-loop-f : goal.decreases-loop-f
-decreases-loop-f l = length l.shares - l.f
+invariant-loop-f l = Passed l.shares l.largest l.sum (length l.yielded)
