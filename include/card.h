@@ -28,7 +28,7 @@
  * Threads. The library has no state of its own: calls may run at the same time as long as none writes what another one
  * is lent.
  *
- * Stack, measured with the kit rattle-kit-5b, with the return address: a writing 1,064 bytes, a reading 1,064. Where
+ * Stack, measured with the kit rattle-kit-13f, with the return address: a writing 1,576 bytes, a reading 2,120. Where
  * the loader binds memcpy or memset at the first call, that call takes some 3,200 more.
  *
  * The library is libcard.a. It is built for x86_64-unknown-linux-gnu and has the C calling convention of that target.

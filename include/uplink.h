@@ -30,8 +30,8 @@
  *
  * Threads. Two calls on one record may not run at the same time: the caller locks. Calls on different records may.
  *
- * Stack, measured with the kit rattle-kit-5b, with the return address and the arguments that stand there: an opening
- * 5,664 bytes, an arrival 5,380, a pick 5,388, a depth 8. Where the loader binds memcpy or memset at the first call,
+ * Stack, measured with the kit rattle-kit-13f, with the return address and the arguments that stand there: an opening
+ * 1,424 bytes, an arrival 1,768, a pick 1,776, a depth 16. Where the loader binds memcpy or memset at the first call,
  * that call takes some 3,200 more.
  *
  * The library is built for x86_64-unknown-linux-gnu and has the C calling convention of that target. Of the program

@@ -1,25 +1,26 @@
 -- What each way through an arrival gives, as the rule has it.
 -- Assumes nothing.
-use Rattle.std.specs.Prelude.{◌≡◌, ◌≢◌, ℕ, ◌+◌, ◌≤◌, List, [], pos, slice_index, set, Result, Ok, Err}
+use Rattle.std.specs.Prelude.{◌≡◌, ◌≢◌, ℕ, ◌+◌, ◌≤◌, List, [], pos, slice_index, set, Result, Ok, Err, Bool, true, false, length}
 use Rattle.std.proofs.Common.{sym, ap, ◌∙◌, arith}
+use Rattle.std.specs.Array.{IsWholeChunk}
 use lib.Seq.{set-get_or}
 use borrow.Author.Tests.{eq-eqb, ne_eqb}
 use Rattle.cost.specs.Charge.{charge_of}
-use Rattle.reply.specs.Reply.{done, done_reply}
+use Rattle.reply.specs.Reply.{done, refused, done_reply}
 use Rattle.reply.specs.State.{state, outcome, unless_refused}
 use Rattle.reply.specs.Replies.{told}
 use Rattle.reply.specs.declared.Refusal.{Refusal}
 use Rattle.queues.specs.Queue.{place_of, cost_to}
 use Rattle.queues.specs.Queues.{queues_of, put_joined}
 use Rattle.queues.specs.Places.{join_reply}
-use Rattle.queues.specs.Checked.{ready_reply, ready_done, unready, is_ready, replied_on, checked_reply}
+use Rattle.queues.specs.Checked.{formed_done, lengths_unlent, handles_unlent, checked_reply}
 use Rattle.queues.specs.declared.Queues.{Queues}
 use Rattle.signs.specs.Tags.{front_tag}
 use Rattle.uplink.specs.Formed.{formed_out}
 use Rattle.uplink.specs.Ready.{stored}
 use Rattle.backward.specs.Record.{tag_of, queue_of, waiting_of, with, tagged, put}
 use Rattle.backward.specs.Raised.{raised_record}
-use Rattle.backward.specs.State.{State}
+use Rattle.backward.specs.State.{Outcome}
 use Rattle.backward.specs.Form.{formed}
 use Rattle.backward.specs.Formed.{all_near}
 use Rattle.backward.specs.Arrival.{joining, admit_reply, store_rule, arrival_rule}
@@ -63,59 +64,74 @@ module _ (r : Record) (lengths handles : List ℕ) (f n handle waiting : ℕ) (q
     put_joined r.queues f (waiting_of r f + 1),
   )
 
--- past refusals 1 and 2
-module _ (r : Record) (lengths handles : List ℕ) (f n : ℕ) (ready : Result (Unit {0}) Refusal)
-    (said : done_reply ready ≡ ready_reply (formed r lengths) lengths handles (done [])) (u : Unit {0})
-    (e : ready ≡ Ok u) where
-  pub few_flows : r.flows ≤ 64
-  few_flows = (formed_out (raised_record r) lengths (is_ready (formed r lengths) lengths handles ready said u e).2).few
+-- the form test, and past it
+module _ (r : Record) (lengths : List ℕ) (f n : ℕ) (b : Bool) (e : b ≡ formed r lengths) where
+  -- 2
+  pub unformed : b ≡ false → refused 2 0 ≡ admit_reply r lengths f n
+  unformed h = rw (← e, h)
 
-  -- 7, 8 and 9
-  pub joined : (flows : ℕ) → flows ≡ r.flows → (joins : Result (Unit {0}) Refusal)
-      → done_reply joins ≡ join_reply flows f n (slice_index r.queues.largest f) (slice_index r.queues.waiting f)
-      → done_reply joins ≡ admit_reply (state r lengths handles) f n
-  joined flows same joins asked =
-      rw same at asked
-      ∙ sym (replied_on (formed r lengths) lengths handles ready said u e (joining (state r lengths handles) f n))
+  module _ (h : b ≡ true) where
+    pub few_flows : r.flows ≤ 64
+    few_flows = (formed_out (raised_record r) lengths (sym e ∙ h)).few
+
+    -- 7, 8 and 9
+    pub joined : (flows : ℕ) → flows ≡ r.flows → (joins : Result (Unit {0}) Refusal)
+        → done_reply joins ≡ join_reply flows f n (slice_index r.queues.largest f) (slice_index r.queues.waiting f)
+        → done_reply joins ≡ admit_reply r lengths f n
+    joined flows same joins asked = rw same at asked ∙ rw (← e, h)
 
 -- what each way through the refusals gives
-pub ruleset admitting = (unready, few_flows, joined)
+pub ruleset admitting = (unformed, few_flows, joined)
 
--- an arrival by its refusals
-admitted : (s : State) (f n handle : ℕ)
-    → unless_refused (admit_reply s f n) s (store_rule s f n handle) ≡ arrival_rule s f n handle
-unfolding arrival_rule
-admitted s f n handle = checked_reply (formed s.held s.lengths) s (joining s f n) (store_rule s f n handle)
+-- an arrival by its steps: the number of places in each memory, then refusals 2, 7, 8 and 9
+module _ (r : Record) (lengths handles : List ℕ) (f n handle : ℕ) where
+  abbrev store : Outcome
+  store = store_rule (state r lengths handles) f n handle
 
-module _ (r : Record) (lengths handles : List ℕ) (f n : ℕ) (admits : Result (Unit {0}) Refusal)
-    (said : done_reply admits ≡ admit_reply (state r lengths handles) f n) where
-  -- refused
-  pub arrived_refused : (handle : ℕ) (why : Refusal) → admits ≡ Err why
-      → outcome (done_reply (Err why)) r lengths handles ≡ arrival_rule (state r lengths handles) f n handle
-  arrived_refused handle why e =
-      rw (told why).says (rw (← said, e, (told why).says) at (admitted (state r lengths handles) f n handle))
+  -- 1
+  pub arrived_unlent : (length lengths ≡ 4096 → ⊥)
+      → outcome (refused 1 0) r lengths handles ≡ arrival_rule (state r lengths handles) f n handle
+  unfolding arrival_rule
+  arrived_unlent h = lengths_unlent r (formed r lengths) lengths handles _ h
 
-  module _ (u : Unit {0}) (e : admits ≡ Ok u) where
-    -- what the checks leave of queue and tag
-    pub storing : Stored r f n lengths handles
-    storing =
-        let d = ready_done (formed r lengths) lengths handles _ (sym said ∙ ap done_reply e) in
-        let form = formed_out (raised_record r) lengths d.2 in
-        let S = stored (raised_record r) f lengths handles (d.0, d.1) form n d.3 in
-        record {
-          queue = S.queue;
-          tag = (all_near r lengths form).each f S.queue.flow;
-          clock = omega (arith, S.clock);
-        }
+  module _ (ls : List ℕ) (L : IsWholeChunk lengths ls 4096) where
+    pub arrived_unhandled : (length handles ≡ 4096 → ⊥)
+        → outcome (refused 1 0) r ls handles ≡ arrival_rule (state r lengths handles) f n handle
+    unfolding arrival_rule
+    arrived_unhandled h = rw L.same (handles_unlent r (formed r lengths) lengths handles L.long _ h)
 
-    pub short : n ≤ 1500
-    short = storing.queue.short
+    module _ (hs : List ℕ) (H : IsWholeChunk handles hs 4096) (admits : Result (Unit {0}) Refusal)
+        (said : done_reply admits ≡ admit_reply r ls f n) where
+      admitted : unless_refused (done_reply admits) (state r lengths handles) store
+          ≡ arrival_rule (state r lengths handles) f n handle
+      unfolding arrival_rule
+      admitted = rw (said, L.same) (checked_reply r (formed r lengths) lengths handles L.long H.long
+          (joining (state r lengths handles) f n) store)
 
-    -- the packet is taken
-    pub arrived : (handle : ℕ) (next : Record) (ls hs : List ℕ)
-        → outcome (done []) next ls hs ≡ store_rule (state r lengths handles) f n handle
-        → outcome (done []) next ls hs ≡ arrival_rule (state r lengths handles) f n handle
-    arrived handle next ls hs q = q ∙ rw (← said, e) at (admitted (state r lengths handles) f n handle)
+      -- refused
+      pub arrived_refused : (why : Refusal) → admits ≡ Err why
+          → outcome (done_reply (Err why)) r ls hs ≡ arrival_rule (state r lengths handles) f n handle
+      arrived_refused why e = rw (L.same, H.same, (told why).says) (rw (e, (told why).says) at admitted)
 
--- what each way past them gives
-pub ruleset taking = (arrived_refused, storing, short, arrived)
+      -- the packet is taken
+      pub arrived : (u : Unit {0}) → admits ≡ Ok u → (next : Record) (ls' hs' : List ℕ)
+          → outcome (done []) next ls' hs' ≡ store_rule (state r ls hs) f n handle
+          → outcome (done []) next ls' hs' ≡ arrival_rule (state r lengths handles) f n handle
+      arrived u e next ls' hs' q = rw (L.same, H.same) at q ∙ rw e at admitted
+
+-- what the checks leave
+module _ (r : Record) (lengths : List ℕ) (f n : ℕ) (admits : Result (Unit {0}) Refusal)
+    (said : done_reply admits ≡ admit_reply r lengths f n) (u : Unit {0}) (e : admits ≡ Ok u) where
+  pub storing : Stored r f n
+  storing =
+      let d = formed_done (formed r lengths) _ (sym said ∙ ap done_reply e) in
+      let form = formed_out (raised_record r) lengths d.0 in
+      let S = stored (raised_record r) f lengths form n d.1 in
+      record {
+        queue = S.queue;
+        tag = (all_near r lengths form).each f S.queue.flow;
+        clock = omega (arith, S.clock);
+      }
+
+  pub short : n ≤ 1500
+  short = storing.queue.short

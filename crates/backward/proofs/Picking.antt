@@ -1,20 +1,20 @@
 -- What each way through a pick gives, as the rule has it.
 -- Assumes nothing.
-use Rattle.std.specs.Prelude.{◌≡◌, refl, ℕ, ◌+◌, ◌-◌, ◌*◌, ◌%◌, ◌≤◌, ◌<◌, Bool, true, false, cond, ltb, pos, List, [], get_or, slice_index, set, Option, Some, None, Result, Ok, Err}
+use Rattle.std.specs.Prelude.{◌≡◌, refl, ℕ, ◌+◌, ◌-◌, ◌*◌, ◌%◌, ◌≤◌, ◌<◌, Bool, true, false, cond, ltb, length, pos, List, get_or, slice_index, set, Option, Some, None}
 use Rattle.std.specs.Int.Signed.{mag}
 use Rattle.std.proofs.Common.{sym, ap, ◌∙◌, arith, ltb-true}
+use Rattle.std.specs.Array.{IsWholeChunk}
 use lib.Seq.{set-get_or}
 use borrow.Author.Tests.{le-ltb, lt-ltb}
 use Rattle.below.specs.Listed.{listed, listed_here}
 use Rattle.cost.specs.Charge.{charge_of, link_ticks}
-use Rattle.reply.specs.Reply.{done, idle, refused, packet, done_reply}
+use Rattle.reply.specs.Reply.{idle, refused, packet}
 use Rattle.reply.specs.State.{state, outcome}
-use Rattle.reply.specs.declared.Refusal.{Refusal}
 use Rattle.queues.specs.Queue.{place_of, cost_to}
 use Rattle.queues.specs.Queues.{queues_of, put_left}
 use Rattle.queues.specs.Places.{freed_of}
 use Rattle.queues.specs.Ready.{Servable}
-use Rattle.queues.specs.Checked.{ready_reply, checked_not, checked_past, is_ready}
+use Rattle.queues.specs.Checked.{lengths_unlent, handles_unlent, refused_unformed, goes_on}
 use Rattle.queues.specs.declared.Queues.{Queues}
 use Rattle.queues.specs.declared.places.Freed.{Freed}
 use Rattle.tags.specs.Ticks.{ticks, leap_rule}
@@ -32,7 +32,6 @@ use Rattle.signs.specs.declared.SignedTags.{SignedTags}
 use Rattle.uplink.specs.Record.{link_time}
 use Rattle.uplink.specs.Formed.{Formed, formed_out}
 use Rattle.uplink.specs.Pick.{clock_limit}
-use Rattle.uplink.specs.PickReply.{pick_reply}
 use Rattle.uplink.specs.Ready.{leaves}
 use Rattle.backward.specs.Record.{tag_of, queue_of, waiting_of, with, turned, tagged, put, lowered, rested}
 use Rattle.backward.specs.Raised.{raised_record}
@@ -94,7 +93,7 @@ module _ (r : Record) (lengths handles : List ℕ) (f first : ℕ) (q : Queues)
   after = with r r.sum clock link r.tags p r.turn
 
   -- that one does not overflow the tag: the clock is no further than one packet on
-  pub fronting : Servable r.queues r.header f lengths handles → Going r f → Fronting after f
+  pub fronting : Servable r.queues r.header f lengths → Going r f → Fronting after f
   fronting S G =
       let short : freed.length ≤ 1500 = rw (went.0, on.0) S.short in
       rw (fewer.1, on.1) record {
@@ -178,9 +177,9 @@ module _ (r : Record) (f : ℕ) (ahead : ServerTicks) (leap : Leapt) (n : ahead.
 -- the record after it
 module _ (r next : Record) (f : ℕ) (leaps : Bool) (told_leap : (leaps ≡ leapt r f) × (next ≡ leapt_record r f)) where
   -- what was ready before the leap is ready after it
-  pub soon_going : (lengths handles : List ℕ) → Servable r.queues r.header f lengths handles → Soon r f
-      → Servable next.queues next.header f lengths handles × Going next f
-  soon_going lengths handles S D = let same = leapt_stays (chosen_record r f) (leapt r f) in
+  pub soon_going : (lengths : List ℕ) → Servable r.queues r.header f lengths → Soon r f
+      → Servable next.queues next.header f lengths × Going next f
+  soon_going lengths S D = let same = leapt_stays (chosen_record r f) (leapt r f) in
       rw (told_leap.1, same.0, same.1) (
         S,
         record {
@@ -204,57 +203,71 @@ module _ (r next : Record) (f : ℕ) (leaps : Bool) (told_leap : (leaps ≡ leap
       }) q
       ∙ rw (d, told_leap.1, told_leap.0)
 
--- refusals 1 and 2, and past them
-module _ (r : Record) (lengths handles : List ℕ) (ready : Result (Unit {0}) Refusal)
-    (said : done_reply ready ≡ ready_reply (formed r lengths) lengths handles (done [])) where
-  pub picked_unready : (why : Refusal) → ready ≡ Err why
-      → outcome (pick_reply (Err why)) r lengths handles ≡ pick_rule (state r lengths handles)
+-- a pick by its steps: the number of places in each memory, then the form test
+module _ (r : Record) (lengths handles : List ℕ) where
+  -- 1
+  pub picked_unlent : (length lengths ≡ 4096 → ⊥)
+      → outcome (refused 1 0) r lengths handles ≡ pick_rule (state r lengths handles)
   unfolding pick_rule
-  picked_unready why e =
-      checked_not (formed r lengths) lengths handles ready said why e r (choose_rule (state r lengths handles))
+  picked_unlent h = lengths_unlent r (formed r lengths) lengths handles _ h
 
-  module _ (u : Unit {0}) (e : ready ≡ Ok u) where
-    pub form : Formed (raised_record r) lengths
-    form = formed_out (raised_record r) lengths (is_ready (formed r lengths) lengths handles ready said u e).2
-
-    picked_on : (o : Outcome) → o ≡ choose_rule (state r lengths handles) → o ≡ pick_rule (state r lengths handles)
+  module _ (ls : List ℕ) (L : IsWholeChunk lengths ls 4096) where
+    pub picked_unhandled : (length handles ≡ 4096 → ⊥)
+        → outcome (refused 1 0) r ls handles ≡ pick_rule (state r lengths handles)
     unfolding pick_rule
-    picked_on o q =
-        q ∙ sym (checked_past (formed r lengths) lengths handles ready said u e r (choose_rule (state r lengths handles)))
+    picked_unhandled h = rw L.same (handles_unlent r (formed r lengths) lengths handles L.long _ h)
+
+    module _ (hs : List ℕ) (H : IsWholeChunk handles hs 4096) (b : Bool) (e : b ≡ formed r ls) where
+      -- 2
+      pub picked_unformed : b ≡ false → outcome (refused 2 0) r ls hs ≡ pick_rule (state r lengths handles)
+      unfolding pick_rule
+      picked_unformed h = rw (L.same, H.same)
+          (refused_unformed r (formed r lengths) lengths handles L.long H.long b (rw L.same at e) _ h)
+
+      -- past them
+      pub picked_on : b ≡ true → (o : Outcome) → o ≡ choose_rule (state r ls hs)
+          → o ≡ pick_rule (state r lengths handles)
+      unfolding pick_rule
+      picked_on h o q = rw (L.same, H.same) at q
+          ∙ goes_on r (formed r lengths) lengths handles L.long H.long b (rw L.same at e) _ h
+
+-- past refusals 1 and 2
+module _ (r : Record) (ls : List ℕ) (b : Bool) (e : b ≡ formed r ls) where
+  module _ (h : b ≡ true) where
+    pub form : Formed (raised_record r) ls
+    form = formed_out (raised_record r) ls (sym e ∙ h)
 
     pub leadable : (r.flows ≤ 64) × Near r.tags.0
-    leadable = (form.few, all_near r lengths form)
+    leadable = (form.few, all_near r ls form)
 
     module _ (choice : Option told_lead.Lead) (led : choice ≡ found (lead_of r)) where
       -- step 1
-      pub picked_idle : (next : Record) → choice ≡ None → next ≡ rested r
-          → outcome idle next lengths handles ≡ pick_rule (state r lengths handles)
+      pub chosen_idle : (next : Record) → choice ≡ None → next ≡ rested r → (hs : List ℕ)
+          → outcome idle next ls hs ≡ choose_rule (state r ls hs)
       unfolding choose_rule idle_rule
-      picked_idle next none n = picked_on _ (rw (n, found_none (lead_of r) (sym none ∙ led)))
+      chosen_idle next none n hs = rw (n, found_none (lead_of r) (sym none ∙ led))
 
       module _ (lead : told_lead.Lead) (some : choice ≡ Some lead) where
         leader : ((lead_of r).waits ≡ true) × (lead.flow ≡ (lead_of r).flow) × (lead.tag ≡ (lead_of r).tag)
         leader = found_some (lead_of r) lead (sym some ∙ led)
 
         -- 10
-        pub picked_late : clock_limit ≤ r.clock.0 + r.sum.0
-            → outcome (refused 10 0) r lengths handles ≡ pick_rule (state r lengths handles)
+        pub chosen_late : clock_limit ≤ r.clock.0 + r.sum.0 → (hs : List ℕ)
+            → outcome (refused 10 0) r ls hs ≡ choose_rule (state r ls hs)
         unfolding choose_rule
-        picked_late h = picked_on _ (rw (leader.0, le-ltb (r.clock.0 + r.sum.0) clock_limit h))
+        chosen_late h hs = rw (leader.0, le-ltb (r.clock.0 + r.sum.0) clock_limit h)
 
         module _ (soon : r.clock.0 + r.sum.0 < clock_limit) where
           -- what the checks leave of queue and tag
-          pub sending : Servable r.queues r.header lead.flow lengths handles × Soon r lead.flow
+          pub sending : Servable r.queues r.header lead.flow ls × Soon r lead.flow
           sending =
               let chosen = (leads r.turn (λ f. natural (tag_of r f)) (waiting_of r) r.flows).smallest leader.0 in
-              let past = is_ready (formed r lengths) lengths handles ready said u e in
-              let L = leaves (raised_record r) (lead_of r).flow lengths handles (past.0, past.1) form chosen.counts
-              chosen.waits soon in
+              let L = leaves (raised_record r) (lead_of r).flow ls form chosen.counts chosen.waits soon in
               rw leader.1 (
                 L.queue,
                 record {
-                  tags = all_near r lengths form;
-                  sum = sum_fits r lengths form;
+                  tags = all_near r ls form;
+                  sum = sum_fits r ls form;
                   width = L.width;
                   clock = omega (arith, soon);
                   link = L.link;
@@ -262,8 +275,7 @@ module _ (r : Record) (lengths handles : List ℕ) (ready : Result (Unit {0}) Re
               )
 
           -- the front packet goes
-          pub picked : (o : Outcome) → o ≡ serve_rule (state r lengths handles) lead.flow
-              → o ≡ pick_rule (state r lengths handles)
+          pub chosen : (hs : List ℕ) (o : Outcome) → o ≡ serve_rule (state r ls hs) lead.flow
+              → o ≡ choose_rule (state r ls hs)
           unfolding choose_rule
-          picked o q = picked_on o
-              (q ∙ rw (leader.1, leader.0, lt-ltb (r.clock.0 + r.sum.0) clock_limit soon))
+          chosen hs o q = q ∙ rw (leader.1, leader.0, lt-ltb (r.clock.0 + r.sum.0) clock_limit soon)

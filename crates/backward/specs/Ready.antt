@@ -2,7 +2,7 @@
 -- crate `queues`. `Stored`: where an arrival's packet is stored. `Fronting`: where a packet comes to the front.
 -- `Soon`: before the leap. `Going`: after it, where the packet goes.
 -- Assumes nothing.
-use Rattle.std.specs.Prelude.{List, ℕ, ◌^◌, ◌≤◌, ◌<◌}
+use Rattle.std.specs.Prelude.{ℕ, ◌^◌, ◌≤◌, ◌<◌}
 use Rattle.std.specs.Int.Signed.{mag}
 use Rattle.queues.specs.Ready.{Storable}
 use Rattle.signs.specs.Bounds.{reach, Near}
@@ -10,8 +10,8 @@ use Rattle.backward.specs.Record.{tag_of, queue_of}
 use Rattle.backward.specs.declared.Record.{Record}
 
 -- a packet of n bytes is stored at flow f
-pub record Stored (r : Record) (f n : ℕ) (lengths handles : List ℕ) : Type 0 where
-  pub queue : Storable r.queues f n lengths handles
+pub record Stored (r : Record) (f n : ℕ) : Type 0 where
+  pub queue : Storable r.queues f n
   pub tag : mag (tag_of r f) < reach
   pub clock : r.clock.0 < reach
 

@@ -26,8 +26,8 @@ impl Record {
         Called { next: self, reply }
     }
 
-    // The packet is stored where nothing refuses it.
-    #[tactic(auto, using(crate::proofs::Arriving::taking))]
+    // The packet is stored where nothing refuses it, refusal 1 first.
+    #[tactic(auto, using(crate::proofs::Arriving::arrived_unlent))]
     fn take(
         &mut self,
         flow: u32,
@@ -39,23 +39,25 @@ impl Record {
         ensures { outcome (done_reply result) self.new lengths.new handles.new
             ≡ arrival_rule (state self.old lengths.old handles.old) flow length handle }
     {
-        self.admits(flow, length, lengths, handles)?;
+        let Some(lengths) = lengths.as_mut_array() else {
+            return Err(Refusal::Memory);
+        };
+        let Some(handles) = handles.as_mut_array() else {
+            return Err(Refusal::Memory);
+        };
+        self.admits(flow, length, lengths)?;
         self.store(flow, length as u16, handle, lengths, handles);
         Ok(())
     }
 
-    // Refusals 1, 2, 7, 8 and 9.
+    // Refusals 2, 7, 8 and 9.
     #[tactic(auto, using(crate::proofs::Arriving::admitting))]
-    fn admits(
-        &self,
-        flow: u32,
-        length: u32,
-        lengths: &[u16],
-        handles: &[u32],
-    ) -> Result<(), Refusal>
-        ensures { done_reply result ≡ admit_reply (state self.now lengths.now handles.now) flow length }
+    fn admits(&self, flow: u32, length: u32, lengths: &[u16; 4096]) -> Result<(), Refusal>
+        ensures { done_reply result ≡ admit_reply self.now lengths.now flow length }
     {
-        self.ready(lengths, handles)?;
+        if !self.is_formed(lengths) {
+            return Err(Refusal::Form);
+        }
         self.queues.admits(u32::from(self.flows), flow, length)
     }
 
@@ -65,10 +67,10 @@ impl Record {
         flow: u32,
         bytes: u16,
         handle: u32,
-        lengths: &mut [u16],
-        handles: &mut [u32],
+        lengths: &mut [u16; 4096],
+        handles: &mut [u32; 4096],
     )
-        requires { Stored self.old flow bytes lengths.old handles.old }
+        requires { Stored self.old flow bytes }
         ensures { outcome (done []) self.new lengths.new handles.new
             ≡ store_rule (state self.old lengths.old handles.old) flow bytes handle }
     {

@@ -29,7 +29,7 @@ impl Record {
     }
 
     // Steps 1 and 2: the flow that leads sends, where nothing refuses it. Refusal 10 is by clock and sum together.
-    #[tactic(auto, using(crate::proofs::Picking::picked_unready))]
+    #[tactic(auto, using(crate::proofs::Picking::picked_unlent))]
     fn choose(
         &mut self,
         lengths: &mut [u16],
@@ -38,7 +38,15 @@ impl Record {
         ensures { outcome (pick_reply result) self.new lengths.new handles.new
             ≡ pick_rule (state self.old lengths.old handles.old) }
     {
-        self.ready(lengths, handles)?;
+        let Some(lengths) = lengths.as_mut_array() else {
+            return Err(Refusal::Memory);
+        };
+        let Some(handles) = handles.as_mut_array() else {
+            return Err(Refusal::Memory);
+        };
+        if !self.is_formed(lengths) {
+            return Err(Refusal::Form);
+        }
         let Some(lead) = self.lead() else {
             self.rest();
             return Ok(None);
@@ -71,8 +79,8 @@ impl Record {
     }
 
     // Steps 3 to 5 at this flow: choose and leap, then advance and free. The tag is told as it is after the leap.
-    fn send(&mut self, flow: u32, lengths: &mut [u16], handles: &mut [u32]) -> Packet
-        requires { Servable self.old.queues self.old.header flow lengths.old handles.old
+    fn send(&mut self, flow: u32, lengths: &mut [u16; 4096], handles: &mut [u32; 4096]) -> Packet
+        requires { Servable self.old.queues self.old.header flow lengths.old
             × Soon self.old flow }
         ensures { outcome (pick_reply (Ok (Some result))) self.new lengths.new handles.new
             ≡ serve_rule (state self.old lengths.old handles.old) flow }
@@ -122,8 +130,8 @@ impl Record {
 
     // Steps 4 and 5: the packet in front leaves, both clocks go on by what it takes of the link, and where the flow
     // still waits the packet behind it gets its tag.
-    fn serve(&mut self, flow: u32, lengths: &mut [u16], handles: &mut [u32]) -> Freed
-        requires { Servable self.old.queues self.old.header flow lengths.old handles.old
+    fn serve(&mut self, flow: u32, lengths: &mut [u16; 4096], handles: &mut [u32; 4096]) -> Freed
+        requires { Servable self.old.queues self.old.header flow lengths.old
             × Going self.old flow }
         ensures { served result.length result.handle (state self.new lengths.new handles.new)
             ≡ served_rule (state self.old lengths.old handles.old) flow }
@@ -131,7 +139,7 @@ impl Record {
         let first = self.queues.go_on(flow);
         let waiting = self.queues.leave(flow);
         let freed = queues::free(flow, first, lengths, handles);
-        uplink::advance(self.header, freed.length, &mut self.clock, &mut self.link);
+        uplink::advance_clocks(self.header, freed.length, &mut self.clock, &mut self.link);
         if 1 < waiting {
             self.tag_front(flow, freed.behind);
         }

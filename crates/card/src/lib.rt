@@ -15,7 +15,8 @@ use entries::Entry;
 pub use reader::read_block;
 pub use writer::write_block;
 
-// A block's content: its number, how many entries are used (1 to 31), and all 31, the unused ones zeros.
+// A block's content: its number, how many entries are used (1 to 31), and all 31, the unused ones zeros. Any content may
+// be handed to the writer, which refuses another count and other unused entries: so all 31 stand beside their count.
 #[derive(Clone, Copy)]
 pub struct Block {
     pub number: u32,

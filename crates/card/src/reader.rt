@@ -1,5 +1,5 @@
 // A block read: the size, the sums, the head's zeros and then the content, tested as it was for the writer.
-ghost use Rattle.std.specs.Prelude.{◌≡◌, length};
+ghost use Rattle.std.specs.Prelude.{◌≡◌};
 ghost use Rattle.below.specs.Listed.{listed};
 ghost use Rattle.card.specs.Block.{entry_at, block_of};
 ghost use Rattle.card.specs.Card.{read_rule};
@@ -8,11 +8,10 @@ use crate::{Block, Refusal};
 use entries::{Entry, read_entry};
 use fields::read_number;
 use std::array;
-use sums::sums_right;
+use sums::{BLOCK_BYTES, sums_right};
 
 // The 31 entries of a block.
-fn entries_of(bytes: &[u8]) -> [Entry; 31]
-    requires { length bytes.now ≡ 512 }
+fn entries_of(bytes: &[u8; BLOCK_BYTES]) -> [Entry; 31]
     ensures { result ≡ listed (entry_at bytes.now) 0 31 }
 {
     array::from_fn(|place| {
@@ -22,8 +21,7 @@ fn entries_of(bytes: &[u8]) -> [Entry; 31]
 }
 
 // What a block's bytes say, legal or not.
-fn block_of(bytes: &[u8]) -> Block
-    requires { length bytes.now ≡ 512 }
+fn block_of(bytes: &[u8; BLOCK_BYTES]) -> Block
     ensures { result ≡ block_of bytes.now }
 {
     let number = read_number(&bytes[0..4]) as u32;
@@ -38,9 +36,9 @@ fn block_of(bytes: &[u8]) -> Block
 pub fn read_block(bytes: &[u8]) -> Result<Block, Refusal>
     ensures exact { result ≡ read_rule bytes.now }
 {
-    if bytes.len() != 512 {
+    let Some(bytes) = bytes.as_array() else {
         return Err(Refusal::Size);
-    }
+    };
     if !sums_right(bytes) {
         return Err(Refusal::Sums);
     }

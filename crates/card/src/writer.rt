@@ -6,7 +6,7 @@ ghost use Rattle.card.specs.Card.{answer_of, written, write_rule};
 use crate::{Block, Refusal};
 use entries::{Entry, write_entry};
 use fields::write_number;
-use sums::sums_of;
+use sums::{BLOCK_BYTES, sums_of};
 
 // The 31 entries, sixteen bytes each: lent by place, since no contract says what a loop over `chunks_exact_mut` leaves.
 fn fill_entries(entries: &[Entry; 31], bytes: &mut [u8])
@@ -31,8 +31,7 @@ fn fill_body(block: &Block, bytes: &mut [u8])
 }
 
 // All 512 bytes: the sums are those of what was just written.
-fn fill_block(block: &Block, bytes: &mut [u8])
-    requires { length bytes.old ≡ 512 }
+fn fill_block(block: &Block, bytes: &mut [u8; BLOCK_BYTES])
     ensures { bytes.new ≡ block_bytes block.now }
 {
     fill_body(block, &mut bytes[0..508]);
@@ -45,9 +44,9 @@ fn fill_block(block: &Block, bytes: &mut [u8])
 pub fn write_block(block: Block, bytes: &mut [u8]) -> Result<(), Refusal>
     ensures exact { written (answer_of result) bytes.new ≡ write_rule block bytes.old }
 {
-    if bytes.len() != 512 {
+    let Some(bytes) = bytes.as_mut_array() else {
         return Err(Refusal::Size);
-    }
+    };
     if !block.is_legal() {
         return Err(Refusal::Field);
     }

@@ -11,12 +11,10 @@ mod content;
 
 use card::{Refusal, read_block, write_block};
 use content::{content_in, write_content};
+use sums::BLOCK_BYTES;
 
 // The words of a content.
 const CONTENT_WORDS: usize = 157;
-
-// The bytes of a block.
-const BLOCK_BYTES: usize = 512;
 
 // What a call answers where it is done, by its name in include/card.h.
 const DONE: u32 = 0;
@@ -67,13 +65,13 @@ fn answer(outcome: Result<(), CallRefusal>) -> u32
 fn write(content: &[u64], block: &mut [u8]) -> Result<(), CallRefusal>
     ensures { written (call_answer result) block.new ≡ card_write content.now block.old }
 {
-    if content.len() != CONTENT_WORDS {
+    let Some(words) = content.as_array() else {
         return Err(CallRefusal::Content);
-    }
+    };
     if block.len() != BLOCK_BYTES {
         return Err(CallRefusal::Card(Refusal::Size));
     }
-    let held = content_in(content).ok_or(Refusal::Field)?;
+    let held = content_in(words).ok_or(Refusal::Field)?;
     write_block(held, block)?;
     Ok(())
 }
@@ -83,11 +81,11 @@ fn write(content: &[u64], block: &mut [u8]) -> Result<(), CallRefusal>
 fn read(block: &[u8], content: &mut [u64]) -> Result<(), CallRefusal>
     ensures { told (call_answer result) content.new ≡ card_read block.now content.old }
 {
-    if content.len() != CONTENT_WORDS {
+    let Some(words) = content.as_mut_array() else {
         return Err(CallRefusal::Content);
-    }
+    };
     let held = read_block(block)?;
-    write_content(&held, content);
+    write_content(&held, words);
     Ok(())
 }
 

@@ -11,7 +11,8 @@ use fields::{read_number, write_number};
 // One call as the card has it.
 #[derive(Clone, Copy, PartialEq, Eq)]
 pub struct Entry {
-    // What call it was, 1 to 4; 0 where the entry is not used.
+    // What call it was, 1 to 4; 0 where the entry is not used. A number and no `Kind`: document 01 wants the decision
+    // over numbers, and a block with any other number is refused.
     pub kind: u8,
     // The packet's flow, 0 to 63; 0 at Idle.
     pub flow: u8,
@@ -118,7 +119,7 @@ pub fn entry_blank(entry: Entry) -> bool
     entry == no_entry()
 }
 
-// Writes an entry's sixteen bytes.
+// Writes an entry's sixteen bytes. A function and no `From`: they are a part of a block, and no array of their own.
 pub fn write_entry(entry: Entry, bytes: &mut [u8])
     requires { length bytes.old ≡ 16 }
     ensures { bytes.new ≡ entry_bytes entry }

@@ -1,5 +1,5 @@
 // Little-endian numbers in lent bytes: the fields of a log card's block (document 02 d). A field is a lent part, and as
-// wide as that part is.
+// wide as that part is, seven bytes too: the library's `to_le_bytes` has the widths of its types alone.
 #![tactic(auto)]
 
 ghost use Rattle.std.specs.Prelude.{◌≡◌, ◌<◌, ◌≤◌, ◌^◌, length};

@@ -1,6 +1,7 @@
 // The record as a block of 132 words, and back: specs/Image.antt. The words stand in the record's own order.
 // Word 0 holds the number of flows in its low 16 bits, the header in the next 16 and the leap width in the high 32.
-// Nothing is tested here: any words are a record's, and the form test is in the calls.
+// Nothing is tested here: any words are a record's, and the form test is in the calls. Functions and no `From`, since
+// neither an array nor the record is a type of this crate.
 ghost use Rattle.std.specs.Prelude.{◌≡◌, ◌%◌, ◌<◌, length, get_or};
 ghost use Rattle.uplink.specs.PickReply.{pick_reply};
 ghost use Rattle.gateway.specs.Depth.{values_reply, depth_reply};

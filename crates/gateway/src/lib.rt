@@ -26,7 +26,8 @@ pub const REPLY_WORDS: usize = 6;
 // The words of a depth's reply.
 const DEPTH_WORDS: usize = 4;
 
-// What a call answers besides document 01's numbers 1 to 10, by its name in include/uplink.h.
+// What a call answers besides document 01's numbers 1 to 10, by its name in include/uplink.h. C is told a number, so
+// each call gives 101 and 102 as it finds them.
 const DONE: u32 = 0;
 
 // Nothing waits.

@@ -46,15 +46,15 @@ pub struct Script<E = Record> {
     ghost one_length: { array_vec_len shares ≡ array_vec_len largest },
 }
 
-// The script after a line, and how many bytes of the lent buffer are the output line.
+// The script after a line, and how many bytes of the lent buffer are the output line: nothing here allocates.
 #[derive(Drop)]
 pub struct Stepped<E = Record> {
     pub next: Script<E>,
     pub written: usize,
 }
 
-// The script after some lines, the place in the input that comes next, and how many bytes of the lent buffer are
-// their output.
+// The script after some lines, the place in the input that comes next, and how many bytes of the lent buffer, as at
+// `Stepped`, are their output.
 #[derive(Drop)]
 pub struct Ran<E = Record> {
     pub next: Script<E>,

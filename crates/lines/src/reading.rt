@@ -7,7 +7,7 @@ ghost use Rattle.lines.specs.Line.{letter_f, letter_a, pair_of, line_of};
 use crate::Line;
 use crate::text::cut;
 
-// 1 to 10 decimal digits, at most 4,294,967,295.
+// 1 to 10 decimal digits, at most 4,294,967,295. By hand, since the library's `parse` takes a sign and more digits.
 fn number(field: &[u8]) -> Option<u32>
     ensures { result ≡ number_of field.now }
 {

@@ -53,7 +53,7 @@ impl<E: Engine> Script<E> {
 }
 
 // A whole script, from its first line on and with fresh memories: the output is written a buffer at a time. An error
-// where the writer does not take every buffer.
+// where the writer does not take every buffer. The place goes on to where each run ended: no iterator has it.
 pub fn run_script<E: Engine, W: Write>(writer: &mut W, input: &[u8]) -> io::Result<()>
     ensures { OnOk result (Appends (W.contents writer.old) (W.contents writer.new)
         (output_by E.rules (start_by E.rules) (lines_of input.now))) }

@@ -30,7 +30,8 @@ pub(crate) fn cut(text: &[u8]) -> Option<(&[u8], &[u8])>
     Some((&text[..end], &text[end + 1..]))
 }
 
-// Puts a text into a buffer from `at` on, and gives the place behind it.
+// Puts a text into a buffer from `at` on, and gives the place behind it. Buffer and place stay two: of a struct that holds
+// the lent buffer no contract can say that what it leaves is what was lent.
 pub fn append(out: &mut [u8], at: usize, text: &[u8]) -> usize
     requires { at + length text.now ≤ length out.old }
     ensures { Put out.old at text.now out.new result }

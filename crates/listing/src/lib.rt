@@ -1,6 +1,7 @@
 // The lines that a block of the log card (document 02 d) is listed as, for the program `logread`. An entry is the line
 // `B E KIND FLOW LENGTH HANDLE CLOCK`: B the block's place in the input from 0, E the entry's from 1. A refused block
 // is the line `B refused NUMBER`. Fields are parted by one space, and a line ends at a line feed.
+// The buffer is lent, and a place in it goes in and comes out, as in `lines`: nothing here allocates.
 // Room: a number has at most 20 digits, so an entry's line has at most 134 bytes and 31 of them have 4,154.
 #![tactic(auto)]
 

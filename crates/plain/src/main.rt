@@ -7,6 +7,7 @@
 
 use backward::Record;
 
+// `script` has the same lines over the other engine's record, with its own name in the messages.
 fn main(rt: HostRuntime) {
     let mut input = [0u8; 65536];
     let Ok(count) = console::read_input(&mut rt.stdin(), &mut input) else {

@@ -36,8 +36,8 @@ impl Queues {
 
     // Every waiting length of every flow.
     #[tactic(auto, using(crate::proofs::Testing::loop_ways))]
-    fn lengths_ok(&self, flows: u32, lengths: &[u16]) -> bool
-        requires flows_bound { (flows ≤ 64) × (length lengths.now ≡ 4096) }
+    fn lengths_ok(&self, flows: u32, lengths: &[u16; 4096]) -> bool
+        requires flows_bound { flows ≤ 64 }
         requires placed { Placed self.now flows }
         ensures { result ≡ all_below (λ f. queue_formed f lengths.now (queue_at self.now f)) flows }
     {
@@ -60,8 +60,7 @@ impl Queues {
 
     // The queue's side of a record is well formed, with this memory of lengths. Any numbers may be handed in.
     #[tactic(auto, using(crate::proofs::Testing::side_ways))]
-    pub fn are_formed(&self, flows: u32, header: u16, width: u32, lengths: &[u16]) -> bool
-        requires { length lengths.now ≡ 4096 }
+    pub fn are_formed(&self, flows: u32, header: u16, width: u32, lengths: &[u16; 4096]) -> bool
         ensures { result ≡ queue_side flows header width self.now lengths.now }
     {
         (1 <= flows) & (flows <= 64) & (header <= 64)

@@ -46,9 +46,10 @@ fn eight_ok(window: &[u16], fence: &[u16], largest: u16) -> bool
     wrong == 0
 }
 
-// A queue of at most eight that does not pass the flow's last place: eight lengths at once.
-fn short_ok(flow: u32, largest: u16, first: u16, waiting: u16, lengths: &[u16]) -> bool
-    requires flow_in_bounds { 64 * flow + 64 ≤ length lengths.now }
+// A queue of at most eight that does not pass the flow's last place: eight lengths at once. Here and in `long_ok` a
+// flow's figures are parameters, since `queue_ok` has read each from its array once.
+fn short_ok(flow: u32, largest: u16, first: u16, waiting: u16, lengths: &[u16; 4096]) -> bool
+    requires flow_bound { flow < 64 }
     requires first_bound { (first ≤ 56) × (waiting ≤ 8) × (0 < largest) }
     ensures { result ≡ lengths_formed flow lengths.now largest first waiting }
 {
@@ -59,8 +60,8 @@ fn short_ok(flow: u32, largest: u16, first: u16, waiting: u16, lengths: &[u16]) 
 
 // Any queue: all of the flow's places, or one stretch of them, or two.
 #[tactic(auto, using(crate::proofs::Forming::ring_ways))]
-fn long_ok(flow: u32, largest: u16, first: u16, waiting: u16, lengths: &[u16]) -> bool
-    requires flow_in_bounds { 64 * flow + 64 ≤ length lengths.now }
+fn long_ok(flow: u32, largest: u16, first: u16, waiting: u16, lengths: &[u16; 4096]) -> bool
+    requires flow_bound { flow < 64 }
     requires first_bound { (first < 64) × (waiting ≤ 64) × (0 < largest) }
     ensures { result ≡ lengths_formed flow lengths.now largest first waiting }
 {
@@ -80,8 +81,8 @@ fn long_ok(flow: u32, largest: u16, first: u16, waiting: u16, lengths: &[u16]) -
 
 impl Queues {
     // Every waiting length of a flow.
-    pub(crate) fn queue_ok(&self, flow: u32, lengths: &[u16]) -> bool
-        requires flow_bound { (flow < 64) × (length lengths.now ≡ 4096) }
+    pub(crate) fn queue_ok(&self, flow: u32, lengths: &[u16; 4096]) -> bool
+        requires flow_bound { flow < 64 }
         requires kept { Kept (queue_at self.now flow) }
         ensures { result ≡ queue_formed flow lengths.now (queue_at self.now flow) }
     {

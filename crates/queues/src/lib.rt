@@ -1,6 +1,8 @@
 // The queue's side of an uplink: what each of 64 flows has booked, and where its packets wait in two lent memories.
 // It knows no tag and no clock, so every engine has it as it stands. Source: document 01.
 // Units: lengths in bytes, costs in ticks a byte, shares in thousandths of the link.
+// A flow's number is a `u32` all through, as callers hand it in: a type for those below 64 would be taken apart at each
+// index.
 #![tactic(auto)]
 
 ghost use Rattle.std.specs.Prelude.{◌≡◌};
@@ -16,8 +18,8 @@ mod places;
 pub use opening::{clear, opening_reply};
 pub use places::{Freed, are_lent, free, store};
 
-// One array for each field. A flow's packets wait in a ring of its 64 places, from `first` on. All fields are 0 where
-// the flow is not in the table.
+// One array for each field: with an array of flows a call takes more instructions (docs/PERFORMANCE.md). A flow's
+// packets wait in a ring of its 64 places, from `first` on. All fields are 0 where the flow is not in the table.
 #[derive(Clone, Copy)]
 pub struct Queues {
     // Thousandths of the link, 1 to 1,000.

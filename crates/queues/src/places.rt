@@ -1,5 +1,6 @@
 // Where packets wait, how one joins behind and how one leaves in front; refusals 1, 7, 8 and 9.
-// The two memories are two slices side by side, as the calls of the C interface lend them.
+// The two memories are side by side, as the calls of the C interface lend them: slices of any length before refusal 1,
+// arrays of 4,096 places past it.
 ghost use Rattle.std.specs.Prelude.{◌≡◌, ◌+◌, ◌-◌, ◌%◌, ◌<◌, ◌≤◌, length, slice_index, slice_set};
 ghost use Rattle.reply.specs.Reply.{done_reply};
 ghost use Rattle.queues.specs.Queue.{place_of};
@@ -87,10 +88,10 @@ pub fn store(
     waiting: u16,
     bytes: u16,
     handle: u32,
-    lengths: &mut [u16],
-    handles: &mut [u32],
+    lengths: &mut [u16; 4096],
+    handles: &mut [u32; 4096],
 )
-    requires { (flow < 64) × (length lengths.old ≡ 4096) × (length handles.old ≡ 4096) }
+    requires { flow < 64 }
     ensures { (lengths.new ≡ slice_set lengths.old (place_of flow first waiting) bytes)
         × (handles.new ≡ slice_set handles.old (place_of flow first waiting) handle) }
 {
@@ -108,8 +109,8 @@ pub struct Freed {
 }
 
 // The front packet leaves: its place becomes 0 in both memories.
-pub fn free(flow: u32, first: u16, lengths: &mut [u16], handles: &mut [u32]) -> Freed
-    requires { (flow < 64) × (length lengths.old ≡ 4096) × (length handles.old ≡ 4096) }
+pub fn free(flow: u32, first: u16, lengths: &mut [u16; 4096], handles: &mut [u32; 4096]) -> Freed
+    requires { flow < 64 }
     ensures { (result ≡ freed_of flow first lengths.old handles.old)
         × (lengths.new ≡ slice_set lengths.old (place_of flow first 0) 0)
         × (handles.new ≡ slice_set handles.old (place_of flow first 0) 0) }

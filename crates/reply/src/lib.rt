@@ -37,7 +37,7 @@ pub struct Called<R, T> {
 }
 
 impl Refusal {
-    // Document 01's number.
+    // Document 01's number. A method like `flow` and no `From`: a refusal has two numbers.
     pub fn number(self) -> u32
         ensures { result ≡ reply_number (refusal self) }
     {

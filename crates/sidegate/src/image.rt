@@ -1,6 +1,7 @@
 // The plain engine's record as a block of 133 words, and back: specs/Image.antt. Words 0 to 131 are the first engine's
 // block, read and written by the crate `gateway`, with the tags in two's complement; word 132 is the sum.
-// Nothing is tested here: any words are a record's, and the form test is in the calls.
+// Nothing is tested here: any words are a record's, and the form test is in the calls. Functions and no `From`, since
+// neither an array nor the record is a type of this crate.
 ghost use Rattle.std.specs.Prelude.{◌≡◌};
 ghost use Rattle.sidegate.specs.Image.{plain_words, plain_of};
 

@@ -18,8 +18,9 @@ use tags::{NO_TAG, ServerTags, ServerTicks};
 #[derive(Clone, Copy)]
 pub struct SignedTicks(pub i64);
 
-// The tag of each of 64 flows, in server ticks. Of a flow that waits it is the tag of its front packet, and at least
-// the clock; of any other, that of its last packet picked less the leaps since then, and it may be at or under zero.
+// The tag of each of 64 flows, in server ticks, with a sign and 64 bits, as document 01 wants. Of a flow that waits it
+// is the tag of its front packet, and at least the clock; of any other, that of its last packet picked less the leaps
+// since then, and it may be at or under zero.
 #[derive(Clone, Copy)]
 pub struct SignedTags(pub [i64; 64]);
 

@@ -118,7 +118,7 @@ fn compare(script: &mut impl Read, stored: &mut impl Read) -> Found {
     run(&input[..count], stored, &mut lengths, &mut handles)
 }
 
-// A file of data/, by its name and ending.
+// A file of data/, by its name and ending, which are put together in 64 bytes: nothing here allocates.
 fn open<R: Files>(rt: &R, name: &str, ending: &[u8]) -> io::Result<R::File> {
     let mut path = [0u8; 64];
     let used = lines::collect(&mut path, 0, name.as_bytes());

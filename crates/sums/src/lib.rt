@@ -2,7 +2,7 @@
 // running values, both modulo 65,535. They stand in bytes 508 to 511.
 #![tactic(auto)]
 
-ghost use Rattle.std.specs.Prelude.{◌≡◌, length};
+ghost use Rattle.std.specs.Prelude.{◌≡◌};
 ghost use Rattle.fields.specs.Bytes.{part};
 ghost use Rattle.sums.specs.Sums.{sums_of, sums_right};
 
@@ -15,6 +15,9 @@ pub struct Sums {
     pub second: u16,
 }
 
+// The bytes of a block.
+pub const BLOCK_BYTES: usize = 512;
+
 // How many bytes of a block are summed: all but the sums' own.
 const SUMMED: usize = 508;
 
@@ -22,8 +25,7 @@ const SUMMED: usize = 508;
 const MODULUS: u32 = 65535;
 
 // The sums of a block's bytes 0 to 507, whatever stands behind them.
-pub fn sums_of(block: &[u8]) -> Sums
-    requires { length block.now ≡ 512 }
+pub fn sums_of(block: &[u8; BLOCK_BYTES]) -> Sums
     ensures { result ≡ sums_of (part block.now 0 508) }
 {
     let mut first: u32 = 0;
@@ -39,9 +41,8 @@ pub fn sums_of(block: &[u8]) -> Sums
     }
 }
 
-// Whether the sums that stand in a block are those of its bytes.
-pub fn sums_right(block: &[u8]) -> bool
-    requires { length block.now ≡ 512 }
+// Whether the sums that stand in a block are those of its bytes. One by one, since what is read has 64 bits and a sum 16.
+pub fn sums_right(block: &[u8; BLOCK_BYTES]) -> bool
     ensures { result ≡ sums_right block.now }
 {
     let sums = sums_of(block);

@@ -12,8 +12,8 @@ pub struct Lead {
     pub tag: ServerTicks,
 }
 
-// The flow that leads among those looked at, and its tag: 64 and what is above every tag for nobody. As an option it
-// takes a sixth more instructions a flow.
+// The flow that leads among those looked at, and its tag: 64 and what is above every tag for nobody, so that one `<`
+// compares. With an option each flow takes a `match` besides (and a sixth more instructions): that is no plainer.
 #[derive(Clone, Copy)]
 struct Least {
     flow: usize,
@@ -39,7 +39,8 @@ fn search_from(turn: u64, flows: u32) -> usize
 }
 
 // Who leads once the flows from `from` up to `to` have been looked at too: one that waits with a smaller tag takes the
-// lead, and of equals the first looked at keeps it. A `zip` of tags and numbers waiting takes a sixth more instructions.
+// lead, and of equals the first looked at keeps it. An index, since the flow's number is what is kept: a `zip` of both
+// parts with its count added to `from` is no plainer.
 fn led_on(lead: Least, from: usize, to: usize, tags: &[u64; 64], waiting: &[u16; 64]) -> Least
     requires { (from ≤ to) × (to ≤ 64) × Tagged tags.now to × Led (lead_as lead.flow lead.key) }
     ensures { lead_as result.flow result.key ≡ lead_on (λ f. slice_index tags.now f)

@@ -1,17 +1,17 @@
 -- What each way through a pick gives, as the rule has it.
 -- Assumes nothing.
-use Rattle.std.specs.Prelude.{◌≡◌, ℕ, ◌+◌, ◌-◌, ◌%◌, ◌≤◌, ◌<◌, true, cond, ltb, List, [], set, Result, Ok, Err, Option, Some, None}
+use Rattle.std.specs.Prelude.{◌≡◌, ℕ, ◌+◌, ◌-◌, ◌%◌, ◌≤◌, ◌<◌, true, cond, ltb, Bool, false, length, List, set, Option, Some, None}
 use Rattle.std.proofs.Common.{sym, ◌∙◌, arith}
+use Rattle.std.specs.Array.{IsWholeChunk}
 use lib.Seq.{set-get_or}
 use borrow.Author.Tests.{le-ltb, lt-ltb}
 use Rattle.cost.specs.Charge.{charge_of, link_ticks}
-use Rattle.reply.specs.Reply.{done, idle, refused, packet, done_reply}
+use Rattle.reply.specs.Reply.{idle, refused, packet}
 use Rattle.reply.specs.State.{state, outcome}
-use Rattle.reply.specs.declared.Refusal.{Refusal}
 use Rattle.queues.specs.Queue.{place_of}
 use Rattle.queues.specs.Queues.{queues_of, queue_at, put_left}
 use Rattle.queues.specs.Places.{freed_of}
-use Rattle.queues.specs.Checked.{ready_reply, checked_not, checked_past, is_ready}
+use Rattle.queues.specs.Checked.{lengths_unlent, handles_unlent, refused_unformed, goes_on}
 use Rattle.queues.specs.declared.Queues.{Queues}
 use Rattle.queues.specs.declared.places.Freed.{Freed}
 use Rattle.tags.specs.Ticks.{ticks, leap_rule, front_tag}
@@ -28,7 +28,6 @@ use Rattle.uplink.specs.State.{Outcome}
 use Rattle.uplink.specs.Form.{formed, checked}
 use Rattle.uplink.specs.Formed.{Formed, formed_out, tag_fits}
 use Rattle.uplink.specs.Pick.{clock_limit, lead_of, serve_rule, idle_rule, choose_rule, pick_rule}
-use Rattle.uplink.specs.PickReply.{pick_reply}
 use Rattle.uplink.specs.Ready.{Leaves, leaves, Fronting}
 use Rattle.uplink.specs.declared.Record.{Record}
 
@@ -59,7 +58,7 @@ module _ (r : Record) (lengths handles : List ℕ) (f : ℕ) (leap : Leapt)
   after = with r clock link r.tags p turn
 
   -- that one does not overflow the tag
-  pub fronting : Leaves r f lengths handles → Fronting after f
+  pub fronting : Leaves r f lengths → Fronting after f
   fronting L =
       let short : freed.length ≤ 1500 = rw (went.0, on.0) L.queue.short in
       let late = leap_most leap r.clock (ticks (tag_of r f)) r.width leapt in
@@ -112,53 +111,69 @@ module _ (r : Record) (lengths handles : List ℕ) (f : ℕ) (leap : Leapt)
   sent_last next h e =
       served next (e ∙ rw (le-ltb 1 (waiting_of r f) (omega (arith, h, waits)), set-get_or r.tags.0 f 0))
 
--- refusals 1 and 2, and past them
-module _ (r : Record) (lengths handles : List ℕ) (ready : Result (Unit {0}) Refusal)
-    (said : done_reply ready ≡ ready_reply (formed r lengths) lengths handles (done [])) where
-  pub picked_unready : (why : Refusal) → ready ≡ Err why
-      → outcome (pick_reply (Err why)) r lengths handles ≡ pick_rule (state r lengths handles)
+-- a pick by its steps: the number of places in each memory, then the form test
+module _ (r : Record) (lengths handles : List ℕ) where
+  -- 1
+  pub picked_unlent : (length lengths ≡ 4096 → ⊥)
+      → outcome (refused 1 0) r lengths handles ≡ pick_rule (state r lengths handles)
   unfolding checked
-  picked_unready why e = checked_not (formed r lengths) lengths handles ready said why e r (choose_rule (state r lengths handles))
+  picked_unlent h = lengths_unlent r (formed r lengths) lengths handles _ h
 
-  module _ (u : Unit {0}) (e : ready ≡ Ok u) where
-    form : Formed r lengths
-    form = formed_out r lengths (is_ready (formed r lengths) lengths handles ready said u e).2
-
-    picked_on : (o : Outcome) → o ≡ choose_rule (state r lengths handles) → o ≡ pick_rule (state r lengths handles)
+  module _ (ls : List ℕ) (L : IsWholeChunk lengths ls 4096) where
+    pub picked_unhandled : (length handles ≡ 4096 → ⊥)
+        → outcome (refused 1 0) r ls handles ≡ pick_rule (state r lengths handles)
     unfolding checked
-    picked_on o q = q ∙ sym (checked_past (formed r lengths) lengths handles ready said u e r (choose_rule (state r lengths handles)))
+    picked_unhandled h = rw L.same (handles_unlent r (formed r lengths) lengths handles L.long _ h)
+
+    module _ (hs : List ℕ) (H : IsWholeChunk handles hs 4096) (b : Bool) (e : b ≡ formed r ls) where
+      -- 2
+      pub picked_unformed : b ≡ false → outcome (refused 2 0) r ls hs ≡ pick_rule (state r lengths handles)
+      unfolding checked
+      picked_unformed h = rw (L.same, H.same)
+          (refused_unformed r (formed r lengths) lengths handles L.long H.long b (rw L.same at e) _ h)
+
+      -- past them
+      pub picked_on : b ≡ true → (o : Outcome) → o ≡ choose_rule (state r ls hs)
+          → o ≡ pick_rule (state r lengths handles)
+      unfolding checked
+      picked_on h o q = rw (L.same, H.same) at q
+          ∙ goes_on r (formed r lengths) lengths handles L.long H.long b (rw L.same at e) _ h
+
+-- past refusals 1 and 2
+module _ (r : Record) (ls : List ℕ) (b : Bool) (e : b ≡ formed r ls) where
+  module _ (h : b ≡ true) where
+    pub form : Formed r ls
+    form = formed_out r ls (sym e ∙ h)
 
     -- no tag of a flow that counts stands for none
     pub leadable : (r.flows ≤ 64) × Tagged r.tags.0 r.flows
-    leadable = (form.few, record { each = λ f h. omega (arith, tag_fits r lengths form f h) })
+    leadable = (form.few, record { each = λ f h. omega (arith, tag_fits r ls form f h) })
 
     module _ (choice : Option told_lead.Lead) (led : choice ≡ found (lead_of r)) where
       -- step 1
-      pub picked_idle : (next : Record) → choice ≡ None → next ≡ rested r
-          → outcome idle next lengths handles ≡ pick_rule (state r lengths handles)
+      pub chosen_idle : (next : Record) → choice ≡ None → next ≡ rested r → (hs : List ℕ)
+          → outcome idle next ls hs ≡ choose_rule (state r ls hs)
       unfolding choose_rule idle_rule
-      picked_idle next none n = picked_on _ (rw (n, found_none (lead_of r) (sym none ∙ led)))
+      chosen_idle next none n hs = rw (n, found_none (lead_of r) (sym none ∙ led))
 
       module _ (lead : told_lead.Lead) (some : choice ≡ Some lead) where
         leader : ((lead_of r).waits ≡ true) × (lead.flow ≡ (lead_of r).flow) × (lead.tag ≡ (lead_of r).tag)
         leader = found_some (lead_of r) lead (sym some ∙ led)
 
         -- 10
-        pub picked_late : clock_limit ≤ r.clock.0
-            → outcome (refused 10 0) r lengths handles ≡ pick_rule (state r lengths handles)
+        pub chosen_late : clock_limit ≤ r.clock.0 → (hs : List ℕ)
+            → outcome (refused 10 0) r ls hs ≡ choose_rule (state r ls hs)
         unfolding choose_rule
-        picked_late h = picked_on _ (rw (leader.0, le-ltb r.clock.0 clock_limit h))
+        chosen_late h hs = rw (leader.0, le-ltb r.clock.0 clock_limit h)
 
         module _ (soon : r.clock.0 < clock_limit) where
-          pub leaving : Leaves r lead.flow lengths handles
+          pub leaving : Leaves r lead.flow ls
           leaving =
               let chosen = (leads r.turn (tag_of r) (waiting_of r) r.flows).smallest leader.0 in
-              let past = is_ready (formed r lengths) lengths handles ready said u e in
-              rw leader.1 (leaves r (lead_of r).flow lengths handles (past.0, past.1) form chosen.counts chosen.waits soon)
+              rw leader.1 (leaves r (lead_of r).flow ls form chosen.counts chosen.waits soon)
 
           -- the front packet goes
-          pub picked : (o : Outcome) → o ≡ serve_rule (state r lengths handles) lead.flow
-              → o ≡ pick_rule (state r lengths handles)
+          pub chosen : (hs : List ℕ) (o : Outcome) → o ≡ serve_rule (state r ls hs) lead.flow
+              → o ≡ choose_rule (state r ls hs)
           unfolding choose_rule
-          picked o q =
-              picked_on o (q ∙ rw (leader.1, leader.0, lt-ltb r.clock.0 clock_limit soon))
+          chosen hs o q = q ∙ rw (leader.1, leader.0, lt-ltb r.clock.0 clock_limit soon)

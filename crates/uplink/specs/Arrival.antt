@@ -1,16 +1,17 @@
 -- The rule of an arrival: document 01, "The three calls" and the order of refusals 1, 2, 7, 8, 9.
 -- Assumes nothing.
-use Rattle.std.specs.Prelude.{[], ℕ, set}
+use Rattle.std.specs.Prelude.{List, [], ℕ, set}
 use Rattle.cost.specs.Charge.{charge_of}
 use Rattle.reply.specs.Reply.{Reply, done}
 use Rattle.queues.specs.Queue.{place_of}
 use Rattle.queues.specs.Places.{join_reply}
-use Rattle.queues.specs.Checked.{ready_reply}
+use Rattle.queues.specs.Checked.{formed_reply}
 use Rattle.uplink.specs.Flow.{joined_flow, flow_cost}
 use Rattle.uplink.specs.Record.{flow_at, put}
 use Rattle.reply.specs.State.{outcome, unless_refused}
 use Rattle.uplink.specs.State.{State, Outcome}
 use Rattle.uplink.specs.Form.{formed, checked}
+use Rattle.uplink.specs.declared.Record.{Record}
 
 -- "The packet goes behind the flow's last one."
 abbrev pub last_place : State → ℕ → ℕ
@@ -33,9 +34,10 @@ joining s f n = let w = (flow_at s.held f).queue in join_reply s.held.flows f n 
 unfoldable pub join_rule : State → ℕ → ℕ → ℕ → Outcome
 join_rule s f n handle = unless_refused (joining s f n) s (store_rule s f n handle)
 
--- what they and the checks before them refuse: 1, 2, 7, 8, 9
-abbrev pub admit_reply : State → ℕ → ℕ → Reply
-admit_reply s f n = ready_reply (formed s.held s.lengths) s.lengths s.handles (joining s f n)
+-- what they and the check before them refuse, in memories of 4,096 places: 2, 7, 8, 9
+abbrev pub admit_reply : Record → List ℕ → ℕ → ℕ → Reply
+admit_reply r lengths f n = let w = (flow_at r f).queue in
+    formed_reply (formed r lengths) (join_reply r.flows f n w.largest w.waiting)
 
 -- 1, 2, 7, 8, 9
 abbrev pub arrival_rule : State → ℕ → ℕ → ℕ → Outcome

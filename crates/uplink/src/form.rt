@@ -1,12 +1,9 @@
-// The form test, and refusals 1 and 2, with which every arrival and pick begins. Any record and memories may be handed
-// in, and nothing overflows.
-ghost use Rattle.std.specs.Prelude.{◌≡◌, [], length};
-ghost use Rattle.reply.specs.Reply.{done, done_reply};
-ghost use Rattle.queues.specs.Checked.{ready_reply};
+// The form test of refusal 2, which every arrival and pick makes past refusal 1. Any record may be handed in with any
+// lengths, and nothing overflows.
+ghost use Rattle.std.specs.Prelude.{◌≡◌};
 ghost use Rattle.uplink.specs.Form.{formed};
 
 use crate::Record;
-use reply::Refusal;
 
 // The clock is below this: document 02 a)'s 2^62 + 1,127,206,080.
 pub const CLOCK_END: u64 = (1 << 62) + 1_127_206_080;
@@ -14,8 +11,7 @@ pub const CLOCK_END: u64 = (1 << 62) + 1_127_206_080;
 impl Record {
     // The record is well formed, with this memory of lengths.
     #[tactic(auto, using(crate::proofs::Testing::testing))]
-    pub fn is_formed(&self, lengths: &[u16]) -> bool
-        requires { length lengths.now ≡ 4096 }
+    pub fn is_formed(&self, lengths: &[u16; 4096]) -> bool
         ensures { result ≡ formed self.now lengths.now }
     {
         let flows = u32::from(self.flows);
@@ -28,19 +24,5 @@ impl Record {
             && self
                 .tags
                 .are_formed(flows, self.width, self.clock, &self.queues.waiting)
-    }
-
-    // Refusals 1 and 2.
-    pub(crate) fn ready(&self, lengths: &[u16], handles: &[u32]) -> Result<(), Refusal>
-        ensures { done_reply result
-            ≡ ready_reply (formed self.now lengths.now) lengths.now handles.now (done []) }
-    {
-        if !queues::are_lent(lengths, handles) {
-            return Err(Refusal::Memory);
-        }
-        if !self.is_formed(lengths) {
-            return Err(Refusal::Form);
-        }
-        Ok(())
     }
 }

@@ -3,7 +3,8 @@
 // Three calls, `Record::opening`, `arrival` and `pick`, take any input at all and end with a reply or one of ten
 // numbered refusals.
 // The waiting packets are in two lent memories of 4,096 places, one of lengths (bytes) and one of handles; flow f
-// owns places 64 f to 64 f + 63. They are two parameters wherever they go, as document 01's calls lend them.
+// owns places 64 f to 64 f + 63. They are two parameters wherever they go, as document 01's calls lend them: slices of
+// any length, which refusal 1 makes arrays of 4,096.
 #![tactic(auto)]
 
 ghost use Rattle.std.specs.Prelude.{◌≡◌};
@@ -16,7 +17,7 @@ mod opening;
 mod pick;
 
 pub use form::CLOCK_END;
-pub use pick::{CLOCK_LIMIT, advance};
+pub use pick::{CLOCK_LIMIT, advance_clocks};
 use queues::Queues;
 use reply::Called;
 use tags::{LinkTicks, ServerTags, ServerTicks};

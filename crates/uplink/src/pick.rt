@@ -19,7 +19,7 @@ use tags::{Lead, LinkTicks, ServerTags, ServerTicks};
 pub const CLOCK_LIMIT: u64 = 1 << 62;
 
 // Step 4: both clocks go on by what a packet of `length` bytes takes of the link.
-pub fn advance(header: u16, length: u16, clock: &mut ServerTicks, link: &mut LinkTicks)
+pub fn advance_clocks(header: u16, length: u16, clock: &mut ServerTicks, link: &mut LinkTicks)
     requires { (clock.old.0 < 2 ^ 63) × (link.old.0 < 2 ^ 63) }
     ensures { (clock.new ≡ ticks (clock.old.0 + link_ticks (charge_of header length)))
         × (link.new ≡ link_time (link.old.0 + link_ticks (charge_of header length))) }
@@ -40,7 +40,7 @@ impl Record {
     }
 
     // Steps 1 and 2: the flow that leads sends, where nothing refuses it.
-    #[tactic(auto, using(crate::proofs::Picking::picked_unready))]
+    #[tactic(auto, using(crate::proofs::Picking::picked_unlent))]
     fn choose(
         &mut self,
         lengths: &mut [u16],
@@ -49,7 +49,15 @@ impl Record {
         ensures { outcome (pick_reply result) self.new lengths.new handles.new
             ≡ pick_rule (state self.old lengths.old handles.old) }
     {
-        self.ready(lengths, handles)?;
+        let Some(lengths) = lengths.as_mut_array() else {
+            return Err(Refusal::Memory);
+        };
+        let Some(handles) = handles.as_mut_array() else {
+            return Err(Refusal::Memory);
+        };
+        if !self.is_formed(lengths) {
+            return Err(Refusal::Form);
+        }
         let Some(lead) = self.lead() else {
             self.rest();
             return Ok(None);
@@ -80,8 +88,8 @@ impl Record {
     }
 
     // Steps 3 to 5 at this flow: choose and leap, then advance and free.
-    fn send(&mut self, flow: u32, lengths: &mut [u16], handles: &mut [u32]) -> Packet
-        requires { Leaves self.old flow lengths.old handles.old }
+    fn send(&mut self, flow: u32, lengths: &mut [u16; 4096], handles: &mut [u32; 4096]) -> Packet
+        requires { Leaves self.old flow lengths.old }
         ensures { outcome (pick_reply (Ok (Some result))) self.new lengths.new handles.new
             ≡ serve_rule (state self.old lengths.old handles.old) flow }
     {
@@ -92,7 +100,7 @@ impl Record {
         let first = self.queues.go_on(flow);
         let waiting = self.queues.leave(flow);
         let freed = queues::free(flow, first, lengths, handles);
-        advance(self.header, freed.length, &mut self.clock, &mut self.link);
+        advance_clocks(self.header, freed.length, &mut self.clock, &mut self.link);
         if 1 < waiting {
             self.tag_front(flow, freed.behind);
         }

@@ -5,14 +5,14 @@ use Rattle.backward.proofs.Record.serve.Goals as goal
 pub tag_front-requires : goal.tag_front-requires
 tag_front-requires c =
     fronting _ _ _ _ _ _ c.go_on-first.ensures _ _ c.leave-waiting.ensures _ _ _ c.free-freed.ensures _ _
-    c.advance.ensures c.requires.0 c.requires.1
+    c.advance_clocks.ensures c.requires.0 c.requires.1
 
 pub returns-then-waiting-gt1 : goal.returns-then-waiting-gt1
 returns-then-waiting-gt1 c =
     served_more _ _ _ _ _ _ c.go_on-first.ensures _ _ c.leave-waiting.ensures _ _ _ c.free-freed.ensures _ _
-    c.advance.ensures _ c.if-waiting-gt1.true c.tag_front.ensures
+    c.advance_clocks.ensures _ c.if-waiting-gt1.true c.tag_front.ensures
 
 pub returns-else-waiting-gt1 : goal.returns-else-waiting-gt1
 returns-else-waiting-gt1 c =
     served_last _ _ _ _ _ _ c.go_on-first.ensures _ _ c.leave-waiting.ensures _ _ _ c.free-freed.ensures _ _
-    c.advance.ensures c.if-waiting-gt1.false
+    c.advance_clocks.ensures c.if-waiting-gt1.false

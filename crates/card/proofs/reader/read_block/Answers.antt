@@ -4,8 +4,8 @@ use Rattle.card.proofs.Ways.{read_short, read_sums, read_head, read_field, read_
 use Rattle.card.proofs.reader.read_block.Goals as goal
 use Rattle.card.proofs.reader.read_block.Goals.{then-zeros-ne0-via-then-zeros-ne0, then-zeros-ne0-via-else-zeros-ne0+then-not-is_legal}
 
-pub returns-then-bytes-ne512 : goal.returns-then-bytes-ne512
-returns-then-bytes-ne512 c = search (rules, read_short)
+pub returns-in_default : goal.returns-in_default
+returns-in_default c = search (rules, read_short)
 
 pub returns-then-not-sums_right : goal.returns-then-not-sums_right
 returns-then-not-sums_right c = search (rules, read_sums)
@@ -17,6 +17,5 @@ returns-then-zeros-ne0 c =
       | then-zeros-ne0-via-else-zeros-ne0+then-not-is_legal w ↦ search (rules, read_field)
     ]
 
--- fields: ['exact']
 pub returns : goal.returns
 returns c = search (rules, read_done)
