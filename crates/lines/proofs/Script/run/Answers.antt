@@ -1,7 +1,6 @@
 -- `lines::Script::run` meets its contract. What its loop keeps is in Invariants.
 use Rattle.std.proofs.Common.{rules}
-use Rattle.lines.specs.Ends.{part_length, line_start, line_within, next_fits}
-use Rattle.lines.proofs.Onward.{going_none, going_within, going_full, going_all, line_room, going_more}
+use Rattle.lines.proofs.Onward.{going_none, going_full, going_all, going_more}
 use Rattle.lines.proofs.Script.run.Goals as goal
 
 pub loop-at-init : goal.loop-at-init
