@@ -7,7 +7,6 @@ ghost use Rattle.backward.specs.Record.{tag_of, queue_of, tagged};
 ghost use Rattle.backward.specs.Ready.{Fronting};
 
 use crate::Record;
-use signs::SignedTicks;
 
 impl Record {
     // The flow's tag becomes the larger of tag and clock, plus what the packet of `bytes` is charged.
@@ -16,9 +15,8 @@ impl Record {
         ensures { self.new ≡ tagged self.old flow (front_tag (tag_of self.old flow) self.old.clock.0
             (cost_to (queue_of self.old flow)) (charge_of self.old.header bytes)) }
     {
-        let at = flow as usize;
-        let cost = cost::cost_at(self.queues.share[at]);
-        let tag = SignedTicks(self.tags.0[at]);
-        self.tags.0[at] = signs::front_tag(tag, self.clock, self.header, bytes, cost).0;
+        let cost = cost::cost_at(self.queues.share[flow as usize]);
+        let tag = signs::front_tag(self.tags.tag_at(flow), self.clock, self.header, bytes, cost);
+        self.tags.put_tag(flow, tag);
     }
 }

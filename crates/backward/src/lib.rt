@@ -5,7 +5,8 @@
 // Bookings, queues and memories are the crate `queues`, signed tags the crate `signs`. The three calls take any input
 // at all and end with a reply or one of document 01's ten numbered refusals. Their text is this engine's own, and not
 // one of a trait's: document 02 c) wants this engine beside the fast one, and a trait over both records takes, for the
-// ten lines in common, its declaration, two impls of every step and the rules of both as ghost members.
+// ninety lines in common, signatures and contracts among them, its declaration, two impls of every step and the rules
+// of both as ghost members.
 #![tactic(auto)]
 
 ghost use Rattle.std.specs.Prelude.{◌≡◌};

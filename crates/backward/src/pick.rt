@@ -14,7 +14,7 @@ ghost use Rattle.backward.specs.Ready.{Going, Soon};
 use crate::{Picked, Record};
 use queues::Freed;
 use reply::{Called, Refusal};
-use signs::{SignedTags, SignedTicks};
+use signs::SignedTags;
 use tags::{Lead, LinkTicks, ServerTicks};
 use uplink::{CLOCK_LIMIT, Packet};
 
@@ -116,7 +116,7 @@ impl Record {
         requires { flow < 64 }
         ensures { result.0 ≡ natural (tag_of self.now flow) }
     {
-        SignedTicks(self.tags.0[flow as usize]).natural()
+        self.tags.tag_at(flow).natural()
     }
 
     // A leap: the clock stays and every tag goes down by the leap width, which the sum keeps.

@@ -120,7 +120,7 @@ fn write_step(r: Record, flow: u32, words: &mut [u64; BLOCK_WORDS])
     let k = f / 4;
     words[1] = r.clock.0;
     words[2] = r.link.0;
-    words[TAGS + f] = r.tags.0[f];
+    words[TAGS + f] = r.tags.tag_at(flow).0;
     words[FIRST + k] = word_at(&r.queues.first, k);
     words[WAITING + k] = word_at(&r.queues.waiting, k);
     words[TURN] = r.turn;

@@ -40,6 +40,7 @@ pub const REFUSED_RECORD: u32 = 101;
 pub const REFUSED_REPLY: u32 = 102;
 
 // Opens a table: its flows' shares and largest packets, and the link header of every packet.
+#[tactic(auto, unfolding(crate::specs::Gateway::gateway_opening, crate::specs::Gateway::told))]
 pub fn uplink_opening(
     shares: &[u32],
     largest: &[u32],

@@ -4,7 +4,7 @@
 // Units: server ticks.
 #![tactic(auto)]
 
-ghost use Rattle.std.specs.Prelude.{◌≡◌, ◌^◌, ◌<◌, pos, get_or};
+ghost use Rattle.std.specs.Prelude.{◌≡◌, ◌^◌, ◌<◌, pos, get_or, set};
 ghost use Rattle.std.specs.Int.Signed.{mag};
 ghost use Rattle.below.specs.Listed.{listed};
 ghost use Rattle.cost.specs.Charge.{charge_of};
@@ -33,15 +33,39 @@ impl SignedTicks {
     }
 }
 
-// A tag with the sum added; 2^64 - 1 where it is below zero even so.
+// A tag with the sum added; 2^64 - 1 where it is below zero even so. -1 less a tag fits for every tag below zero, and
+// 0 less it does not.
 fn raise(tag: i64, sum: u64) -> u64
     requires { sum < 2 ^ 63 }
     ensures { result ≡ raised sum tag }
 {
-    sum.checked_add_signed(tag).unwrap_or(NO_TAG)
+    if tag < 0 {
+        let under = (-1 - tag) as u64;
+        if under < sum {
+            return sum - 1 - under;
+        }
+        return NO_TAG;
+    }
+    tag as u64 + sum
 }
 
 impl SignedTags {
+    // The tag of one flow.
+    pub fn tag_at(&self, flow: u32) -> SignedTicks
+        requires { flow < 64 }
+        ensures { result.0 ≡ get_or self.now.0 flow (pos 0) }
+    {
+        SignedTicks(self.0[flow as usize])
+    }
+
+    // Another tag for one flow.
+    pub fn put_tag(&mut self, flow: u32, tag: SignedTicks)
+        requires { flow < 64 }
+        ensures { self.new.0 ≡ set self.old.0 flow tag.0 }
+    {
+        self.0[flow as usize] = tag.0;
+    }
+
     // The tags as far as they are above zero.
     pub fn naturals(&self) -> ServerTags
         ensures { result.0 ≡ listed (λ f. natural (get_or self.now.0 f (pos 0))) 0 64 }

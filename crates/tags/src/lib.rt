@@ -2,7 +2,8 @@
 // tag of a packet that comes to the front, what the form asks of tags, and which flow has the smallest.
 // It knows no queue but the number waiting in each. Sources: document 01; source 000 (report WUCS-96-10), section 3,
 // for the leap and equation 3; source 003 for one tag a flow.
-// Link time and server time are two types, as document 01 wants. The tags of all flows stand in a third, in server ticks.
+// Link time and server time are two types, as document 01 wants. The tags of all flows stand in a third, and a tag goes
+// in and out of it as server ticks only.
 #![tactic(auto)]
 
 mod choice;

@@ -1,10 +1,28 @@
 // The steps on tags that arrivals and picks are made of: document 01, "The three calls". Each is one definition of
 // specs/Ticks.antt.
-ghost use Rattle.std.specs.Prelude.{◌≡◌, ◌^◌, ◌<◌};
+ghost use Rattle.std.specs.Prelude.{◌≡◌, ◌^◌, ◌<◌, slice_index, slice_set};
 ghost use Rattle.cost.specs.Charge.{charge_of};
 ghost use Rattle.tags.specs.Ticks.{ticks, leap_rule, front_tag};
 
-use crate::ServerTicks;
+use crate::{ServerTags, ServerTicks};
+
+impl ServerTags {
+    // The tag of one flow.
+    pub fn tag_at(&self, flow: u32) -> ServerTicks
+        requires { flow < 64 }
+        ensures { result.0 ≡ slice_index self.now.0 flow }
+    {
+        ServerTicks(self.0[flow as usize])
+    }
+
+    // Another tag for one flow.
+    pub fn put_tag(&mut self, flow: u32, tag: ServerTicks)
+        requires { flow < 64 }
+        ensures { self.new.0 ≡ slice_set self.old.0 flow tag.0 }
+    {
+        self.0[flow as usize] = tag.0;
+    }
+}
 
 // A leap taken or not, and the clock after it, which is the clock both ways.
 #[derive(Clone, Copy)]

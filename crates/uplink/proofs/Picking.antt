@@ -38,8 +38,8 @@ unfolding leap_rule
 leap_most leap clock tag width e = rw e (leap_high clock.0 width tag.0)
 
 -- steps 3 to 5 at flow f
-module _ (r : Record) (lengths handles : List ℕ) (f : ℕ) (leap : Leapt)
-    (leapt : leap ≡ leap_rule r.clock r.width (ticks (tag_of r f))) (turn : ℕ) (on_turn : turn ≡ turn_after f)
+module _ (r : Record) (lengths handles : List ℕ) (f : ℕ) (tag : ServerTicks) (tagged_so : tag.0 ≡ tag_of r f)
+    (leap : Leapt) (leapt : leap ≡ leap_rule r.clock r.width tag) (turn : ℕ) (on_turn : turn ≡ turn_after f)
     (first : ℕ) (q : Queues)
     (on : (first ≡ (queue_at r.queues f).first)
     × (q ≡ queues_of r.queues.share r.queues.largest (set r.queues.first f ((first + 1) % 64)) r.queues.waiting))
@@ -61,7 +61,7 @@ module _ (r : Record) (lengths handles : List ℕ) (f : ℕ) (leap : Leapt)
   pub fronting : Leaves r f lengths → Fronting after f
   fronting L =
       let short : freed.length ≤ 1500 = rw (went.0, on.0) L.queue.short in
-      let late = leap_most leap r.clock (ticks (tag_of r f)) r.width leapt in
+      let late = leap_most leap r.clock tag r.width leapt in
       rw (fewer.1, on.1) record {
         flow = L.queue.flow;
         share_low = L.queue.share_low;
@@ -74,7 +74,7 @@ module _ (r : Record) (lengths handles : List ℕ) (f : ℕ) (leap : Leapt)
   served : (next : Record)
       → next ≡ tagged after f (cond (ltb 1 (waiting_of r f))
       (front_tag (tag_of r f) clock.0 (flow_cost (flow_at r f)) (charge_of r.header freed.behind)) (tag_of r f))
-      → outcome (packet f freed.length freed.handle (tag_of r f) leap.leapt next.clock.0) next ls hs
+      → outcome (packet f freed.length freed.handle tag.0 leap.leapt next.clock.0) next ls hs
       ≡ serve_rule (state r lengths handles) f
   unfolding serve_rule served_flow put leap_rule
   served next e = rw (
@@ -90,6 +90,7 @@ module _ (r : Record) (lengths handles : List ℕ) (f : ℕ) (leap : Leapt)
     on.0,
     on_turn,
     leapt,
+    tagged_so,
     put_left r.queues f (((queue_at r.queues f).first + 1) % 64) ((queue_at r.queues f).waiting - 1),
   )
 
@@ -99,14 +100,14 @@ module _ (r : Record) (lengths handles : List ℕ) (f : ℕ) (leap : Leapt)
   -- another packet comes to the front, and the flow gets its tag
   pub sent_more : (next : Record) → 1 < waiting
       → next ≡ tagged after f (front_tag (tag_of r f) clock.0 (flow_cost (flow_at after f)) (charge_of r.header freed.behind))
-      → outcome (packet f freed.length freed.handle (tag_of r f) leap.leapt next.clock.0) next ls hs
+      → outcome (packet f freed.length freed.handle tag.0 leap.leapt next.clock.0) next ls hs
       ≡ serve_rule (state r lengths handles) f
   sent_more next h e =
       served next (e ∙ rw (lt-ltb 1 (waiting_of r f) (omega (arith, h, waits)), fewer.1, on.1))
 
   -- it was the last, and the tag stays
   pub sent_last : (next : Record) → waiting ≤ 1 → next ≡ after
-      → outcome (packet f freed.length freed.handle (tag_of r f) leap.leapt next.clock.0) next ls hs
+      → outcome (packet f freed.length freed.handle tag.0 leap.leapt next.clock.0) next ls hs
       ≡ serve_rule (state r lengths handles) f
   sent_last next h e =
       served next (e ∙ rw (le-ltb 1 (waiting_of r f) (omega (arith, h, waits)), set-get_or r.tags.0 f 0))

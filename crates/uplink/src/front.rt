@@ -7,7 +7,6 @@ ghost use Rattle.uplink.specs.Record.{flow_at, tag_of, tagged};
 ghost use Rattle.uplink.specs.Ready.{Fronting};
 
 use crate::Record;
-use tags::ServerTicks;
 
 impl Record {
     // The flow's tag becomes the larger of tag and clock, plus what the packet of `bytes` is charged.
@@ -16,9 +15,8 @@ impl Record {
         ensures { self.new ≡ tagged self.old flow (front_tag (tag_of self.old flow) self.old.clock.0
             (flow_cost (flow_at self.old flow)) (charge_of self.old.header bytes)) }
     {
-        let at = flow as usize;
-        let cost = cost::cost_at(self.queues.share[at]);
-        let tag = ServerTicks(self.tags.0[at]);
-        self.tags.0[at] = tags::front_tag(tag, self.clock, self.header, bytes, cost).0;
+        let cost = cost::cost_at(self.queues.share[flow as usize]);
+        let tag = tags::front_tag(self.tags.tag_at(flow), self.clock, self.header, bytes, cost);
+        self.tags.put_tag(flow, tag);
     }
 }

@@ -49,8 +49,9 @@ impl Record {
         let flows = shares.len();
         let queues = Queues::opened(shares, largest);
         let width = queues.widest(flows as u32, header);
+        let count = flows as u16;
         Record {
-            flows: flows as u16,
+            flows: count,
             header,
             width: width as u32,
             queues,

@@ -93,7 +93,7 @@ impl Record {
         ensures { outcome (pick_reply (Ok (Some result))) self.new lengths.new handles.new
             ≡ serve_rule (state self.old lengths.old handles.old) flow }
     {
-        let tag = ServerTicks(self.tags.0[flow as usize]);
+        let tag = self.tags.tag_at(flow);
         let leap = tags::leap(self.clock, self.width, tag);
         self.clock = leap.clock;
         self.turn = tags::turn_after(flow);

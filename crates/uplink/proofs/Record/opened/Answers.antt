@@ -7,8 +7,8 @@ use Rattle.uplink.proofs.Record.opened.Goals as goal
 pub widest-width-requires : goal.widest-width-requires
 widest-width-requires c = (c.requires.few, opened_shares _ _ _ _ _ c.requires _ c.opened-queues.ensures)
 
-pub overflow_cast-result-2 : goal.overflow_cast-result-2
-overflow_cast-result-2 c = omega (arith, c.widest-width.ensures, width_fits _ _ _ _ _ c.requires _ c.opened-queues.ensures)
+pub overflow_cast-result : goal.overflow_cast-result
+overflow_cast-result c = omega (arith, c.widest-width.ensures, width_fits _ _ _ _ _ c.requires _ c.opened-queues.ensures)
 
 pub returns : goal.returns
 returns c = (
