@@ -1,7 +1,8 @@
 // The lines of a script: document 01, "The script program". A line is read to a call, the call is made, and its reply
 // is written as a line. `read` takes any bytes, `Script::step` is the whole step from a state and a line to the next
 // state and the output line, `Script::run` does as many lines of an input as its output buffer has room for, and
-// `run_script` does them all. The calls are those of an `Engine`: the first one, where no other is named.
+// `run_script` does them all, as does `run_script_by_line`, which writes each output line by itself. The calls are those
+// of an `Engine`: the first one, where no other is named.
 #![tactic(auto)]
 
 ghost use Rattle.std.specs.Prelude.{◌≡◌};
@@ -17,7 +18,7 @@ mod writing;
 use arrayvec::ArrayVec;
 pub use engine::Engine;
 pub use reading::read;
-pub use running::run_script;
+pub use running::{run_script, run_script_by_line};
 pub use steps::{NO_HEADER, start};
 pub use text::{append, collect, line_end};
 use uplink::Record;

@@ -1,5 +1,5 @@
 // The lines of an input, one after the other: as many as the output buffer has room for, or all.
-ghost use Rattle.std.specs.Prelude.{length, OnOk};
+ghost use Rattle.std.specs.Prelude.{◌≤◌, length, OnOk};
 ghost use Rattle.std.specs.Io.KnownBytes.{Appends};
 ghost use Rattle.lines.specs.Step.{script_state, start_by};
 ghost use Rattle.lines.specs.Whole.{Runs, lines_of, output_by, run_by};
@@ -52,22 +52,39 @@ impl<E: Engine> Script<E> {
     }
 }
 
-// A whole script, from its first line on and with fresh memories: the output is written a buffer at a time. An error
-// where the writer does not take every buffer. The place goes on to where each run ended: no iterator has it.
-pub fn run_script<E: Engine, W: Write>(writer: &mut W, input: &[u8]) -> io::Result<()>
+// A whole script, from its first line on and with fresh memories: the output is written a buffer at a time, and a buffer
+// that has room for one line alone is written as soon as a line is in it. An error where the writer does not take every
+// buffer. The place goes on to where each run ended: no iterator has it.
+fn run_through<E: Engine, W: Write>(writer: &mut W, input: &[u8], out: &mut [u8]) -> io::Result<()>
+    requires { 160 ≤ length out.old }
     ensures { OnOk result (Appends (W.contents writer.old) (W.contents writer.new)
         (output_by E.rules (start_by E.rules) (lines_of input.now))) }
 {
     let mut lengths = [0u16; 4096];
     let mut handles = [0u32; 4096];
-    let mut out = [0u8; 65536];
     let mut script = start::<E>();
     let mut at = 0;
     while at < input.len() {
-        let ran = script.run(input, at, &mut lengths, &mut handles, &mut out);
+        let ran = script.run(input, at, &mut lengths, &mut handles, out);
         writer.write_all(&out[..ran.written])?;
         script = ran.next;
         at = ran.at;
     }
     Ok(())
+}
+
+// The same, with a buffer of 65,536 bytes.
+pub fn run_script<E: Engine, W: Write>(writer: &mut W, input: &[u8]) -> io::Result<()>
+    ensures { OnOk result (Appends (W.contents writer.old) (W.contents writer.new)
+        (output_by E.rules (start_by E.rules) (lines_of input.now))) }
+{
+    run_through::<E, W>(writer, input, &mut [0u8; 65536])
+}
+
+// The same, but that each line is written as it comes: the buffer has room for one.
+pub fn run_script_by_line<E: Engine, W: Write>(writer: &mut W, input: &[u8]) -> io::Result<()>
+    ensures { OnOk result (Appends (W.contents writer.old) (W.contents writer.new)
+        (output_by E.rules (start_by E.rules) (lines_of input.now))) }
+{
+    run_through::<E, W>(writer, input, &mut [0u8; 160])
 }

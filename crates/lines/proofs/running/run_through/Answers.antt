@@ -1,8 +1,8 @@
--- `lines::running::run_script` meets its contract. What its loop keeps is in Invariants.
+-- `lines::running::run_through` meets its contract. What its loop keeps is in Invariants.
 use Rattle.std.proofs.Common.{rules, arith}
 use Rattle.lines.specs.Running.{runs_onward_by}
 use Rattle.lines.proofs.Playing.{played_none, played_more, played_all}
-use Rattle.lines.proofs.running.run_script.Goals as goal
+use Rattle.lines.proofs.running.run_through.Goals as goal
 
 pub loop-at-init : goal.loop-at-init
 loop-at-init g c = played_none _ _ _ _ _ c.start-script.ensures (omega arith)

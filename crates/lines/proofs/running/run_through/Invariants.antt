@@ -1,9 +1,9 @@
--- `lines::running::run_script` meets its contract. The loop's invariant: the lines up to `at` have been run, and their
+-- `lines::running::run_through` meets its contract. The loop's invariant: the lines up to `at` have been run, and their
 -- output is written. The measure is what is left of the input.
 use Rattle.std.proofs.Common.{length, ◌-◌}
 use Rattle.lines.specs.Step.{script_state}
 use Rattle.lines.proofs.Playing.{Played}
-use Rattle.lines.proofs.running.run_script.Given as goal
+use Rattle.lines.proofs.running.run_through.Given as goal
 
 abbrev pub invariant-loop-at : goal.invariant-loop-at
 invariant-loop-at g l =
