@@ -51,6 +51,11 @@ impl Display for Failed {
     }
 }
 
+// Says on standard error why the log does not go on.
+fn tell(rt: &impl Eprint, failed: Failed) {
+    let _ = eprintln!(rt; "logwrite: {failed}");
+}
+
 // Writes a block that has an entry.
 fn save(rt: &impl Print, block: Block) -> Result<(), Failed> {
     if block.count == 0 {
@@ -72,14 +77,21 @@ impl Logger {
         }
     }
 
-    // What a call logs goes into the block; a block that is full is written first, and the next one begun.
-    fn note(&mut self, rt: &impl Print, entry: Option<Entry>) -> Result<(), Failed> {
+    // What a call logs goes into the block; a block that is full is written first, and the next one begun. Where there is
+    // no next one, and the full one was not written either, both are told.
+    fn note(&mut self, rt: &(impl Print + Eprint), entry: Option<Entry>) -> Result<(), Failed> {
         let Some(entry) = entry else {
             return Ok(());
         };
         if self.block.count >= 31 {
-            save(rt, self.block)?;
-            let number = self.block.number.checked_add(1).ok_or(Failed::LastNumber)?;
+            let saved = save(rt, self.block);
+            let Some(number) = self.block.number.checked_add(1) else {
+                if let Err(failed) = saved {
+                    tell(rt, failed);
+                }
+                return Err(Failed::LastNumber);
+            };
+            saved?;
             self.block = cardlog::begun(number);
         }
         self.block = cardlog::added(self.block, entry);
@@ -106,7 +118,7 @@ impl Logger {
 
     fn arrive(
         &mut self,
-        rt: &impl Print,
+        rt: &(impl Print + Eprint),
         flow: u32,
         bytes: u32,
         handle: u32,
@@ -124,7 +136,7 @@ impl Logger {
         self.note(rt, logged.entry)
     }
 
-    fn pick(&mut self, rt: &impl Print) -> Result<(), Failed> {
+    fn pick(&mut self, rt: &(impl Print + Eprint)) -> Result<(), Failed> {
         let held = self.script.held;
         let logged = cardlog::pick(held, &mut self.lengths, &mut self.handles);
         self.script.held = logged.called.next;
@@ -141,7 +153,7 @@ impl Logger {
     }
 
     // One line of a script.
-    fn step(&mut self, rt: &impl Print, line: &[u8]) -> Result<(), Failed> {
+    fn step(&mut self, rt: &(impl Print + Eprint), line: &[u8]) -> Result<(), Failed> {
         match lines::read(line) {
             Some(Line::Opening) => self.open(rt),
             Some(
@@ -163,7 +175,7 @@ impl Logger {
     // there is room for.
     fn feed(
         &mut self,
-        rt: &impl Print,
+        rt: &(impl Print + Eprint),
         piece: &[u8],
         line: &mut ArrayVec<u8, 64>,
     ) -> Result<(), Failed> {
@@ -180,7 +192,7 @@ impl Logger {
 }
 
 // The whole input, a piece at a time. Its end ends the last line, and the block that is not full is written.
-fn log(rt: &impl Print, input: &mut impl Read) -> Result<(), Failed> {
+fn log(rt: &(impl Print + Eprint), input: &mut impl Read) -> Result<(), Failed> {
     let mut logger = Logger::new();
     let mut line = ArrayVec::new();
     let mut piece = [0; 65536];
@@ -197,6 +209,6 @@ fn log(rt: &impl Print, input: &mut impl Read) -> Result<(), Failed> {
 
 fn main(rt: HostRuntime) {
     if let Err(failed) = log(&rt, &mut rt.stdin()) {
-        let _ = eprintln!(rt; "logwrite: {failed}");
+        tell(&rt, failed);
     }
 }

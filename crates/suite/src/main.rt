@@ -128,11 +128,14 @@ fn open<R: Files>(rt: &R, name: &str, ending: &[u8]) -> io::Result<R::File> {
 }
 
 fn one(rt: &(impl Files + Print), name: &str) -> io::Result<()> {
-    print!(rt; "{name}: ")?;
-    let Ok(mut script) = open(rt, name, b".script") else {
+    rt.write_all(name.as_bytes())?;
+    print!(rt; ": ")?;
+    let script = open(rt, name, b".script");
+    let stored = open(rt, name, b".output");
+    let Ok(mut script) = script else {
         return println!(rt; "no script");
     };
-    let Ok(mut stored) = open(rt, name, b".output") else {
+    let Ok(mut stored) = stored else {
         return println!(rt; "no output");
     };
     println!(rt; "{}", compare(&mut script, &mut stored))
