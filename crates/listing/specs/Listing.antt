@@ -1,6 +1,6 @@
 -- The lines that a block of the log card is listed as: `B E KIND FLOW LENGTH HANDLE CLOCK` for each entry of an
 -- accepted block, and `B refused NUMBER` for a refused one. B is the block's place in the input from 0, E the entry's
--- from 1. `write_listing` of `src/lib.rt` cites it.
+-- from 1. `write_listing` and `write_reading` of `src/lib.rt` cite it.
 -- Assumes nothing.
 use Rattle.std.specs.Prelude.{List, [], ◌∷◌, ◌++◌, ℕ, suc, Option, Some, None, Result, Ok, Err, take}
 use Rattle.lines.specs.Text.{space, line_feed}
@@ -51,7 +51,12 @@ unfoldable pub entries_lines : ℕ → ℕ → List Entry → List ℕ
 entries_lines place number [] = []
 entries_lines place number (e ∷ entries) = entry_line place number e ++ entries_lines place (suc number) entries
 
--- what a reader found: a line for each entry that is used, or that of the refusal
-unfoldable pub block_lines : ℕ → Result Block Refusal → List ℕ
+-- what was found in a block: a line for each entry that is used, or that of the refusal's number
+unfoldable pub block_lines : ℕ → Result Block ℕ → List ℕ
 block_lines place (Ok block) = entries_lines place 1 (take block.count block.entries)
-block_lines place (Err refusal) = refused_line place (refusal_number refusal)
+block_lines place (Err number) = refused_line place number
+
+-- the same of what a reader of `card` found, whose refusals have names
+unfoldable pub reading_lines : ℕ → Result Block Refusal → List ℕ
+reading_lines place (Ok block) = block_lines place (Ok block)
+reading_lines place (Err refusal) = block_lines place (Err (refusal_number refusal))

@@ -1,6 +1,6 @@
 -- Worked lines: an arrival, a pick, a leap, an Idle, a block of two entries and a refused block, computed.
 -- Assumes nothing.
-use Rattle.std.specs.Prelude.{◌≡◌, refl, List, [], ◌∷◌, ◌++◌, ℕ, Result, replicate}
+use Rattle.std.specs.Prelude.{◌≡◌, refl, List, [], ◌∷◌, ◌++◌, ℕ, Result, Ok, Err, replicate}
 use Rattle.std.proofs.Common.{ap, ◌∙◌, arith}
 use Rattle.lines.proofs.Digits.{decimal_more}
 use Rattle.lines.specs.Number.{digits_of, decimal}
@@ -12,7 +12,7 @@ use Rattle.card.specs.declared.Block.{Block}
 use Rattle.card.specs.declared.Refusal.{Refusal}
 use Rattle.card.specs.declared.Refusal.TheVariants.{Sums}
 use Rattle.card.specs.Card.{accepted, refused}
-use Rattle.listing.specs.Listing.{entry_line, entries_lines, block_lines}
+use Rattle.listing.specs.Listing.{entry_line, entries_lines, block_lines, reading_lines}
 
 -- 100 bytes with handle 7 come to flow 0, clock 0
 abbrev arrival : Entry
@@ -79,15 +79,29 @@ unfolding kind_of decimal digits_of field_texts
 idle_row = refl
 
 -- a block of these two entries
-abbrev two : Result Block Refusal
-two = accepted (record { number = 0; count = 2; entries = arrival ∷ pick ∷ replicate 29 no_entry })
+abbrev two_entries : Block
+two_entries = record { number = 0; count = 2; entries = arrival ∷ pick ∷ replicate 29 no_entry }
 
-pub block_row : block_lines 0 two ≡ arrival_text ++ pick_text
+abbrev two : Result Block Refusal
+two = accepted two_entries
+
+pub block_row : block_lines 0 (Ok two_entries) ≡ arrival_text ++ pick_text
 unfolding block_lines entries_lines kind_of decimal digits_of field_texts
 block_row = refl
 
+-- the same as a reader found it
+pub reading_row : reading_lines 0 two ≡ arrival_text ++ pick_text
+unfolding reading_lines block_lines entries_lines kind_of decimal digits_of field_texts
+reading_row = refl
+
 -- 3 refused 11
-pub refused_row : block_lines 3 (refused Sums)
-    ≡ 51 ∷ 32 ∷ 114 ∷ 101 ∷ 102 ∷ 117 ∷ 115 ∷ 101 ∷ 100 ∷ 32 ∷ 49 ∷ 49 ∷ 10 ∷ []
+abbrev pub refused_text : List ℕ
+refused_text = 51 ∷ 32 ∷ 114 ∷ 101 ∷ 102 ∷ 117 ∷ 115 ∷ 101 ∷ 100 ∷ 32 ∷ 49 ∷ 49 ∷ 10 ∷ []
+
+pub refused_row : block_lines 3 (Err 11) ≡ refused_text
 unfolding block_lines decimal digits_of field_texts
 refused_row = refl
+
+pub refused_reading_row : reading_lines 3 (refused Sums) ≡ refused_text
+unfolding reading_lines block_lines decimal digits_of field_texts
+refused_reading_row = refl

@@ -8,8 +8,7 @@
 ghost use Rattle.std.specs.Prelude.{◌≡◌, ◌+◌, ◌*◌, ◌≤◌, length, take};
 ghost use Rattle.lines.specs.Text.{Put};
 ghost use Rattle.entries.specs.Legal.{kind_of};
-ghost use Rattle.card.specs.Card.{refusal_number};
-ghost use Rattle.listing.specs.Listing.{head_text, row_text, kind_word, entry_line, refused_line, entries_lines, block_lines};
+ghost use Rattle.listing.specs.Listing.{head_text, row_text, kind_word, entry_line, refused_line, entries_lines, block_lines, reading_lines};
 
 use card::{Block, Refusal};
 use entries::{Entry, Kind};
@@ -88,20 +87,28 @@ fn put_entries(out: &mut [u8; 4160], place: u64, count: usize, entries: &[Entry;
 }
 
 // The line of a refused block.
-fn put_refused(out: &mut [u8; 4160], place: u64, refusal: Refusal) -> usize
-    ensures { Put out.old 0 (refused_line place (refusal_number refusal)) out.new result }
+fn put_refused(out: &mut [u8; 4160], place: u64, number: u32) -> usize
+    ensures { Put out.old 0 (refused_line place number) out.new result }
 {
-    let number = u32::from(refusal);
     put_row(out, 0, place, &[], b" refused", &[u64::from(number)])
 }
 
-// Writes the lines of what a reader found in the block at this place of the input, and gives their number of bytes.
+// Writes the lines of what was found in the block at this place of the input, its content or the number of any refusal,
+// and gives their number of bytes.
 #[tactic(auto, unfolding(crate::specs::Listing::block_lines))]
-pub fn write_listing(place: u64, reading: Result<Block, Refusal>, out: &mut [u8; 4160]) -> usize
+pub fn write_listing(place: u64, reading: Result<Block, u32>, out: &mut [u8; 4160]) -> usize
     ensures { Put out.old 0 (block_lines place reading) out.new result }
 {
     match reading {
         Ok(block) => put_entries(out, place, usize::from(block.count), &block.entries),
-        Err(refusal) => put_refused(out, place, refusal),
+        Err(number) => put_refused(out, place, number),
     }
+}
+
+// The same of what a reader of `card` found.
+#[tactic(auto, unfolding(crate::specs::Listing::reading_lines))]
+pub fn write_reading(place: u64, reading: Result<Block, Refusal>, out: &mut [u8; 4160]) -> usize
+    ensures { Put out.old 0 (reading_lines place reading) out.new result }
+{
+    write_listing(place, reading.map_err(u32::from), out)
 }

@@ -22,7 +22,7 @@ fn main(rt: HostRuntime) {
             return;
         }
         let reading = card::read_block(&bytes[..count]);
-        let written = listing::write_listing(place, reading, &mut out);
+        let written = listing::write_reading(place, reading, &mut out);
         if stdout.write_all(&out[..written]).is_err() {
             let _ = eprintln!(rt; "logread: standard output failed");
             return;
