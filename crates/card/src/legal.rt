@@ -11,7 +11,7 @@ impl Block {
         ensures { result ≡ block_legal self.now }
     {
         let count = usize::from(self.count);
-        if count == 0 || 31 < count {
+        if !(1..=31).contains(&count) {
             return false;
         }
         let (used, unused) = self.entries.split_at(count);

@@ -113,6 +113,7 @@ pub fn entry_legal(entry: Entry) -> bool
 }
 
 // Whether an entry is zeros, as one that is not used has to be.
+#[tactic(auto, using(std::proofs::lemmas::Bool::Decides::nat_tests), unfolding(crate::specs::Legal::rest_blank, crate::specs::Legal::entry_blank))]
 pub fn entry_blank(entry: Entry) -> bool
     ensures { result ≡ entry_blank entry }
 {
