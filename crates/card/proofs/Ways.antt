@@ -1,9 +1,9 @@
 -- Each way through the tests of a content, through the reader and through the writer.
 -- Assumes nothing.
-use Rattle.std.proofs.Common.{◌≡◌, refl, sym, ap, ap₂, ◌∙◌, arith, Bool, true, false, not, ◌&&◌, List, ℕ, zero, suc, ◌+◌, ◌-◌, ◌≤◌, ◌≢◌, length, get_or, take, drop, take_all, length-drop, get_or-drop, add-one}
+use Rattle.std.proofs.Common.{◌≡◌, refl, sym, ap, ap₂, ◌∙◌, arith, Bool, true, false, not, ◌&&◌, List, ℕ, zero, suc, ◌+◌, ◌-◌, ◌≤◌, ◌<◌, ◌≢◌, length, get_or, take, drop, take_all, length-drop, get_or-drop, add-one}
 use Rattle.std.proofs.lemmas.List.Folds.{list_all_more}
 use Rattle.std.specs.List.{list_all}
-use borrow.Author.Tests.{eq-eqb, ne_eqb, le-leb, lt-ltb, le-ltb, not-true, not-false}
+use borrow.Author.Tests.{eq-eqb, ne_eqb, le-leb, lt-leb, lt-ltb, le-ltb, not-true, not-false}
 use Rattle.below.specs.Below.{all_below, all_below_same, all_below_add}
 use Rattle.fields.specs.Bytes.{number_of, part}
 use Rattle.sums.specs.Sums.{sums_right}
@@ -52,6 +52,16 @@ module _ (count : ℕ) (entries : List Entry) (few : count ≤ 31) (all : length
       ∙ ap (all_below (place_legal count entries)) whole
 
 module _ (b : Block) {count : ℕ} (k : count ≡ b.count) where
+  -- a count of none, or of over 31, is not legal; the check of `is_legal` finds both by the definition alone
+  pub legal_none : count ≡ 0 → false ≡ block_legal b
+  unfolding block_legal
+  legal_none z = let l : b.count < 1 = omega arith in simp (lt-leb _ _ l)
+
+  pub legal_many : 31 < count → false ≡ block_legal b
+  unfolding block_legal
+  legal_many h = let l : 1 ≤ b.count = omega arith in let m : 31 < b.count = omega arith in
+      simp (le-leb _ _ l, lt-leb _ _ m)
+
   -- a count of 1 to 31 leaves the entries to be tested
   legal_count : count ≢ 0 → count ≤ 31 → length b.entries ≡ 31
       → (list_all entry_legal (take count b.entries) && list_all entry_blank (drop count b.entries)) ≡ block_legal b

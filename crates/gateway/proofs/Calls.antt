@@ -1,4 +1,4 @@
--- What each way through an exported call gives, as its definition has it. Those of an opening the check finds by itself.
+-- What each way through an exported call gives, as its definition has it.
 -- Assumes nothing.
 use mathlib.Core.Path.{◌≡◌, refl, sym, ap, ◌∙◌}
 use mathlib.Core.List.{List, []}
@@ -14,6 +14,7 @@ use Rattle.reply.specs.declared.Refusal.{Refusal}
 use Rattle.queues.specs.Opening.{field64}
 use Rattle.uplink.specs.PickReply.{pick_reply}
 use Rattle.reply.specs.State.{state, outcome}
+use Rattle.uplink.specs.Opening.{opening_rule}
 use Rattle.uplink.specs.Arrival.{arrival_rule}
 use Rattle.uplink.specs.Pick.{pick_rule}
 use Rattle.uplink.specs.declared.Packet.{Packet}
@@ -21,8 +22,8 @@ use Rattle.uplink.specs.declared.Record.{Record}
 use Rattle.gateway.specs.Image.{words_of, record_of}
 use Rattle.gateway.specs.Images.{words_of_record, rows_read}
 use Rattle.gateway.specs.Depth.{depth_reply}
-use Rattle.gateway.specs.Gateway.{lending, answered, number_of, values_or}
-use Rattle.gateway.specs.Gateway.{gateway_arrival, gateway_pick, gateway_depth}
+use Rattle.gateway.specs.Gateway.{lending, answered, number_of, with_flow, values_or}
+use Rattle.gateway.specs.Gateway.{gateway_opening, gateway_arrival, gateway_pick, gateway_depth}
 use Rattle.gateway.specs.Told.{number_told, values_kept, wordless, outcome_told}
 use Rattle.gateway.specs.Step.{step_words, flow_in, picked_words}
 use Rattle.gateway.proofs.Stepping.{step_whole, step_rested}
@@ -45,6 +46,26 @@ module _ (block lengths handles : List ℕ) (h : length block ≡ 132) (at : Rep
 done_busy : (reply : Result (Unit {0}) Refusal) → done_reply reply ≡ idle → ⊥
 done_busy (Ok _) e = idle_done (sym e)
 done_busy (Err why) e = idle_refused (sym e ∙ (told why).says)
+
+-- an opening of a block of another size, and one that goes on; the check of `uplink_opening` finds both by the definition
+-- alone, and another crate has them here
+module _ (shares largest : List ℕ) (header : ℕ) (block lengths handles : List ℕ) where
+  pub opening_unblocked : (length block ≡ 132 → ⊥)
+      → answered 101 (lending block lengths handles [])
+      ≡ gateway_opening shares largest header (lending block lengths handles [])
+  unfolding gateway_opening
+  opening_unblocked h = rw (ne_eqb (length block) 132 h)
+
+  pub opening_told : (block' lengths' handles' : List ℕ) (reply : Result (Unit {0}) Refusal) (next : Record) (answer : ℕ)
+      (words : List ℕ) → IsWholeChunk block words 132
+      → outcome (done_reply reply) next lengths' handles' ≡ opening_rule shares largest header lengths handles
+      → block' ≡ words_of next → answer ≡ with_flow (done_reply reply)
+      → answered answer (lending block' lengths' handles' [])
+      ≡ gateway_opening shares largest header (lending block lengths handles [])
+  unfolding gateway_opening
+  opening_told block' lengths' handles' reply next answer words W e b a = rw (eq-eqb (length block) 132 W.long)
+      (outcome_told words_of with_flow (lending block lengths handles []) (done_reply reply) next lengths' handles' _
+      e answer block' [] a b (wordless reply))
 
 -- an arrival at a block of another size, and one that goes on
 module _ (flow bytes handle : ℕ) (block lengths handles : List ℕ) where
