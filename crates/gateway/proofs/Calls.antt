@@ -47,8 +47,8 @@ done_busy : (reply : Result (Unit {0}) Refusal) → done_reply reply ≡ idle �
 done_busy (Ok _) e = idle_done (sym e)
 done_busy (Err why) e = idle_refused (sym e ∙ (told why).says)
 
--- an opening of a block of another size, and one that goes on; the check of `uplink_opening` finds both by the definition
--- alone, and another crate has them here
+-- an opening of a block of another size, and one that goes on; the check of `uplink_opening` finds both by the
+-- definition alone, and another crate has them here
 module _ (shares largest : List ℕ) (header : ℕ) (block lengths handles : List ℕ) where
   pub opening_unblocked : (length block ≡ 132 → ⊥)
       → answered 101 (lending block lengths handles [])
